@@ -1,0 +1,289 @@
+-- `format::check::check` meets its contract: after each part, the tests that are left answer what the whole check answers.
+use mathlib.Core.Path.{sym, _∙_}
+use Prim.Native.Nat.{ℕ, _≤_, _<_, _-_, _+_, _*_}
+use native.Mathlib.Omega.{arith}
+use borrow.Author.Needs.{needs}
+use Rattle.format.specs.Checked.{Framed}
+use Rattle.format.specs.Laws.Whole.{
+  after1,
+  after2,
+  after3,
+  after4,
+  after5,
+  after6,
+  after7,
+  Left,
+  answers-is,
+  too-short,
+  too-long,
+  sized,
+  passes,
+  refuses,
+  refuses-last,
+  accepts,
+  total-passes,
+  total-is,
+  total-fails,
+  framed,
+  weighed,
+}
+use Rattle.format.proofs.check.check.Statement.{statement}
+use Rattle.format.proofs.check.check.Tie as tie
+
+-- what is left after each part that found no fault
+left1 : (c : tie.Else2) → Left (c .before .before .before .args .file .now) (after1 (c .before .before .before .args .file .now))
+left1 c =
+    let start = c .before .before .before in
+    sized (start .args .file .now) (c .before .if1 .left) (c .if2 .left)
+
+left2 : (c : tie.After-enum-told) → Left (c .before .before .before .before .before .before .args .file .now) (after2 (c .before .before .before .before .before .before .args .file .now))
+left2 c =
+    let at-contents = c .before .before in
+    let at-if2 = at-contents .before in
+    passes _ _ (left1 (at-if2)) (answers-is (at-contents .contents .ensures) (c .enum-told .given .1))
+
+left3 : (c : tie.After-enum-told2) → Left (c .before .before .before .before .before .before .before .before .before .args .file .now) (after3 (c .before .before .before .before .before .before .before .before .before .args .file .now))
+left3 c =
+    let at-counts = c .before .before in
+    let at-enum-told = at-counts .before in
+    passes _ _ (left2 (at-enum-told)) (answers-is (at-counts .counts .ensures) (c .enum-told2 .given .1))
+
+left4 : (c : tie.After-enum-told3) → Left (c .before .before .before .before .before .before .before .before .before .before .before .before .args .file .now) (after4 (c .before .before .before .before .before .before .before .before .before .before .before .before .args .file .now))
+left4 c =
+    let at-offsets = c .before .before in
+    let at-enum-told2 = at-offsets .before in
+    passes _ _ (left3 (at-enum-told2)) (answers-is (at-offsets .offsets .ensures) (c .enum-told3 .given .1))
+
+-- the counts, read off a file that passed 1 to 4
+frame :
+    (c : tie.After-u16-at3) →
+    Framed (c .before .before .before .before .before .before .before .before .before .before .before .before .before .before .before .args .file .now) (c .before .before .u16-at .result) (c .before .u16-at2 .result) (c .u16-at3 .result)
+frame c =
+    let at-u16-at = c .before .before in
+    let at-enum-told3 = at-u16-at .before in
+    let at-offsets = at-enum-told3 .before .before in
+    let at-enum-told2 = at-offsets .before in
+    let at-counts = at-enum-told2 .before .before in
+    let at-if2 = at-counts .before .before .before .before in
+    let start = at-if2 .before .before .before in
+    framed (start .args .file .now) (at-if2 .if2 .left) (answers-is (at-counts .counts .ensures) (at-enum-told2 .enum-told2 .given .1))
+    (answers-is (at-offsets .offsets .ensures) (at-enum-told3 .enum-told3 .given .1))
+    (at-u16-at .u16-at .ensures .value) (c .before .u16-at2 .ensures .value) (c .u16-at3 .ensures .value)
+
+left5 : (c : tie.After-enum-told4) → Left (c .before .before .before .before .before .before .before .before .before .before .before .before .before .before .before .before .before .before .args .file .now) (after5 (c .before .before .before .before .before .before .before .before .before .before .before .before .before .before .before .before .before .before .args .file .now))
+left5 c =
+    let at-weightless = c .before .before in
+    let at-enum-told3 = at-weightless .before .before .before .before in
+    passes _ _ (left4 (at-enum-told3)) (answers-is (at-weightless .weightless .ensures) (c .enum-told4 .given .1))
+
+left6 : (c : tie.After-known-told5) → Left (c .before .before .before .before .before .before .before .before .before .before .before .before .before .before .before .before .before .before .before .before .before .before .args .file .now) (after6 (c .before .before .before .before .before .before .before .before .before .before .before .before .before .before .before .before .before .before .before .before .before .before .args .file .now))
+left6 c =
+    let at-product = c .before .before .before in
+    let at-enum-told4 = at-product .before in
+    let start = at-enum-told4 .before .before .before .before .before .before .before .before .before .before .before .before .before .before .before .before .before .before in
+    passes _ _ (left5 (at-enum-told4)) (total-passes (start .args .file .now) (at-product .product .ensures) (c .before .total .given .1))
+
+left7 : (c : tie.After-enum-told6) → Left (c .before .before .before .before .before .before .before .before .before .before .before .before .before .before .before .before .before .before .before .before .before .before .before .before .before .args .file .now) (after7 (c .before .before .before .before .before .before .before .before .before .before .before .before .before .before .before .before .before .before .before .before .before .before .before .before .before .args .file .now))
+left7 c =
+    let at-layerless = c .before .before in
+    let at-known-told5 = at-layerless .before in
+    passes _ _ (left6 (at-known-told5)) (answers-is (at-layerless .layerless .ensures) (c .enum-told6 .given .1))
+
+returns : tie.Need-returns
+returns c =
+    let start = c .before .before in
+    too-short (start .args .file .now) (c .if1 .taken)
+
+returns-2 : tie.Need-returns-2
+returns-2 c =
+    let start = c .before .before .before in
+    too-long (start .args .file .now) (c .before .if1 .left) (c .if2 .taken)
+
+contents-requires : tie.Need-contents-requires
+contents-requires c κs = search needs
+
+enum-known-w : tie.Need-enum-known-w
+enum-known-w c = search needs
+
+returns-3 : tie.Need-returns-3
+returns-3 c =
+    let at-contents = c .before .before .before in
+    let at-if2 = at-contents .before in
+    refuses _ _ (left1 (at-if2)) (answers-is (at-contents .contents .ensures) (c .before .w .given .1))
+
+enum-told : tie.Need-enum-told
+enum-told c = search needs
+
+counts-requires : tie.Need-counts-requires
+counts-requires c κs = search needs
+
+enum-known-w-2 : tie.Need-enum-known-w-2
+enum-known-w-2 c = search needs
+
+returns-4 : tie.Need-returns-4
+returns-4 c =
+    let at-counts = c .before .before .before in
+    let at-enum-told = at-counts .before in
+    refuses _ _ (left2 (at-enum-told)) (answers-is (at-counts .counts .ensures) (c .before .w2 .given .1))
+
+enum-told-2 : tie.Need-enum-told-2
+enum-told-2 c = search needs
+
+offsets-requires : tie.Need-offsets-requires
+offsets-requires c κs = search needs
+
+enum-known-w-3 : tie.Need-enum-known-w-3
+enum-known-w-3 c = search needs
+
+returns-5 : tie.Need-returns-5
+returns-5 c =
+    let at-offsets = c .before .before .before in
+    let at-enum-told2 = at-offsets .before in
+    refuses _ _ (left3 (at-enum-told2)) (answers-is (at-offsets .offsets .ensures) (c .before .w3 .given .1))
+
+enum-told-3 : tie.Need-enum-told-3
+enum-told-3 c = search needs
+
+u16-at-requires : tie.Need-u16-at-requires
+u16-at-requires c κs = search needs
+
+u16-at-requires-2 : tie.Need-u16-at-requires-2
+u16-at-requires-2 c κs = search needs
+
+u16-at-requires-3 : tie.Need-u16-at-requires-3
+u16-at-requires-3 c κs = search needs
+
+weightless-requires : tie.Need-weightless-requires
+weightless-requires c κs = frame c
+
+enum-known-w-4 : tie.Need-enum-known-w-4
+enum-known-w-4 c = search needs
+
+returns-6 : tie.Need-returns-6
+returns-6 c =
+    let at-weightless = c .before .before .before in
+    let at-enum-told3 = at-weightless .before .before .before .before in
+    refuses _ _ (left4 (at-enum-told3)) (answers-is (at-weightless .weightless .ensures) (c .before .w4 .given .1))
+
+enum-told-4 : tie.Need-enum-told-4
+enum-told-4 c = search needs
+
+product-requires : tie.Need-product-requires
+product-requires c κs =
+    let at-weightless = c .before .before in
+    let at-u16-at3 = at-weightless .before in
+    let start = at-u16-at3 .before .before .before .before .before .before .before .before .before .before .before .before .before .before .before in
+    weighed (start .args .file .now) (frame (at-u16-at3)) (answers-is (at-weightless .weightless .ensures) (c .enum-told4 .given .1))
+
+enum-known-total : tie.Need-enum-known-total
+enum-known-total c = search needs
+
+enum-told-5 : tie.Need-enum-told-5
+enum-told-5 c = search needs
+
+returns-7 : tie.Need-returns-7
+returns-7 c =
+    let at-product = c .before .before in
+    let at-enum-told4 = at-product .before in
+    let start = at-enum-told4 .before .before .before .before .before .before .before .before .before .before .before .before .before .before .before .before .before .before in
+    refuses _ _ (left5 (at-enum-told4)) (total-fails (start .args .file .now) (at-product .product .ensures) (c .enum-told5 .given .1))
+
+layerless-requires : tie.Need-layerless-requires
+layerless-requires c κs =
+    let at-u16-at3 = c .before .before .before .before .before .before .before in
+    frame (at-u16-at3)
+
+enum-known-w-5 : tie.Need-enum-known-w-5
+enum-known-w-5 c = search needs
+
+returns-8 : tie.Need-returns-8
+returns-8 c =
+    let at-layerless = c .before .before .before in
+    let at-known-told5 = at-layerless .before in
+    refuses _ _ (left6 (at-known-told5)) (answers-is (at-layerless .layerless .ensures) (c .before .w5 .given .1))
+
+enum-told-6 : tie.Need-enum-told-6
+enum-told-6 c = search needs
+
+misruled-requires : tie.Need-misruled-requires
+misruled-requires c κs =
+    let at-u16-at3 = c .before .before .before .before .before .before .before .before .before .before in
+    frame (at-u16-at3)
+
+enum-known-w-6 : tie.Need-enum-known-w-6
+enum-known-w-6 c = search needs
+
+returns-9 : tie.Need-returns-9
+returns-9 c =
+    let at-misruled = c .before .before .before in
+    let at-enum-told6 = at-misruled .before in
+    let start = at-enum-told6 .before .before .before .before .before .before .before .before .before .before .before .before .before .before .before .before .before .before .before .before .before .before .before .before .before in
+    refuses-last (start .args .file .now) (left7 (at-enum-told6)) (answers-is (at-misruled .misruled .ensures) (c .before .w6 .given .1))
+
+enum-told-7 : tie.Need-enum-told-7
+enum-told-7 c = search needs
+
+cast-t24 : tie.Need-cast-t24
+cast-t24 c = search needs
+
+cast-t25 : tie.Need-cast-t25
+cast-t25 c = search needs
+
+cast-t26 : tie.Need-cast-t26
+cast-t26 c = search needs
+
+returns-10 : tie.Need-returns-10
+returns-10 c =
+    let at-misruled = c .before .before in
+    let at-enum-told6 = at-misruled .before in
+    let at-total = at-enum-told6 .before .before .before .before in
+    let at-product = at-total .before .before in
+    let at-u16-at3 = at-product .before .before .before .before in
+    let at-u16-at2 = at-u16-at3 .before in
+    let at-u16-at = at-u16-at2 .before in
+    let start = at-u16-at .before .before .before .before .before .before .before .before .before .before .before .before .before in
+    accepts (start .args .file .now) (left7 (at-enum-told6)) (answers-is (at-misruled .misruled .ensures) (c .enum-told7 .given .1))
+    (at-u16-at .u16-at .ensures .value) (at-u16-at2 .u16-at2 .ensures .value) (at-u16-at3 .u16-at3 .ensures .value)
+    (total-is (start .args .file .now) (at-product .product .ensures) (at-total .total .given .1))
+
+pub check-spec : {M : Type 1} → statement M
+check-spec =
+    tie.close
+    (tie.spec
+    returns
+    returns-2
+    contents-requires
+    enum-known-w
+    returns-3
+    enum-told
+    counts-requires
+    enum-known-w-2
+    returns-4
+    enum-told-2
+    offsets-requires
+    enum-known-w-3
+    returns-5
+    enum-told-3
+    u16-at-requires
+    u16-at-requires-2
+    u16-at-requires-3
+    weightless-requires
+    enum-known-w-4
+    returns-6
+    enum-told-4
+    product-requires
+    enum-known-total
+    enum-told-5
+    returns-7
+    layerless-requires
+    enum-known-w-5
+    returns-8
+    enum-told-6
+    misruled-requires
+    enum-known-w-6
+    returns-9
+    enum-told-7
+    cast-t24
+    cast-t25
+    cast-t26
+    returns-10)

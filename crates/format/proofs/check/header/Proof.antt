@@ -1,0 +1,147 @@
+-- `format::check::header` meets its contract: each branch passes its test or is its fault.
+use mathlib.Core.Path.{ap, refl, _∙_}
+use Prim.Native.Nat.{ℕ, _≤_, _<_, _-_, _+_, _*_}
+use native.Mathlib.Omega.{arith}
+use borrow.Author.Needs.{needs}
+use Rattle.meaning.specs.Meaning.{layerOf}
+use Rattle.format.specs.File.{after, decode}
+use Rattle.format.specs.Refusals.{headTests}
+use Rattle.format.specs.Laws.First.{none}
+use Rattle.format.specs.Laws.Compared.{most, over, least, under, below, beyond}
+use Rattle.format.proofs.check.header.Statement.{statement}
+use Rattle.format.proofs.check.header.Tie as tie
+
+sub-if1 : tie.Need-sub-if1
+sub-if1 c = search needs
+
+cast-t14 : tie.Need-cast-t14
+cast-t14 c = search needs
+
+returns : tie.Need-returns
+unfolding headTests
+returns c =
+    let start = c .before .before in
+    over {x = start .args .at + 4} refl _ (omega arith)
+
+u16-at-requires : tie.Need-u16-at-requires
+u16-at-requires c κs = search needs
+
+add-u16-at : tie.Need-add-u16-at
+add-u16-at c = search needs
+
+u16-at-requires-2 : tie.Need-u16-at-requires-2
+u16-at-requires-2 c κs = search needs
+
+add-end : tie.Need-add-end
+add-end c = search needs
+
+mul-end : tie.Need-mul-end
+mul-end c = search needs
+
+add-end-2 : tie.Need-add-end-2
+add-end-2 c = search needs
+
+cast-t16 : tie.Need-cast-t16
+cast-t16 c = search needs
+
+returns-2 : tie.Need-returns-2
+unfolding headTests
+returns-2 c =
+    let start = c .before .before .before .before .before in
+    most {x = start .args .at + 4} refl (omega arith)
+    (over (c .before .u16-at2 .ensures .value) _ (c .if2 .taken))
+
+cast-t18 : tie.Need-cast-t18
+cast-t18 c = search needs
+
+returns-3 : tie.Need-returns-3
+unfolding headTests after
+returns-3 c =
+    let at-u16-at2 = c .before .before in
+    let start = at-u16-at2 .before .before .before .before in
+    most {x = start .args .at + 4} refl (omega arith)
+    (most (at-u16-at2 .u16-at2 .ensures .value) (c .before .if2 .left)
+    (over (ap (λ n. start .args .at + 4 + 2 * n) (at-u16-at2 .u16-at2 .ensures .value)) _ (c .if3 .taken)))
+
+cast-t20 : tie.Need-cast-t20
+cast-t20 c = search needs
+
+returns-4 : tie.Need-returns-4
+unfolding headTests after
+returns-4 c =
+    let at-if2 = c .before .before in
+    let at-u16-at2 = at-if2 .before in
+    let at-u16-at = at-u16-at2 .before in
+    let start = at-u16-at .before .before .before in
+    most {x = start .args .at + 4} refl (omega arith)
+    (most (at-u16-at2 .u16-at2 .ensures .value) (at-if2 .if2 .left)
+    (most (ap (λ n. start .args .at + 4 + 2 * n) (at-u16-at2 .u16-at2 .ensures .value)) (c .before .if3 .left)
+    (under (at-u16-at .u16-at .ensures .value) _ (omega arith))))
+
+add-if5 : tie.Need-add-if5
+add-if5 c = search needs
+
+cast-t22 : tie.Need-cast-t22
+cast-t22 c = search needs
+
+returns-5 : tie.Need-returns-5
+unfolding headTests after
+returns-5 c =
+    let at-if3 = c .before .before in
+    let at-if2 = at-if3 .before in
+    let at-u16-at2 = at-if2 .before in
+    let at-u16-at = at-u16-at2 .before in
+    let start = at-u16-at .before .before .before in
+    most {x = start .args .at + 4} refl (omega arith)
+    (most (at-u16-at2 .u16-at2 .ensures .value) (at-if2 .if2 .left)
+    (most (ap (λ n. start .args .at + 4 + 2 * n) (at-u16-at2 .u16-at2 .ensures .value)) (at-if3 .if3 .left)
+    (least (at-u16-at .u16-at .ensures .value) (omega arith)
+    (beyond (at-u16-at .u16-at .ensures .value) _ (omega arith)))))
+
+layer-requires : tie.Need-layer-requires
+layer-requires c κs = search needs
+
+returns-6 : tie.Need-returns-6
+unfolding headTests after
+returns-6 c =
+    let at-if3 = c .before .before .before in
+    let at-if2 = at-if3 .before in
+    let at-u16-at2 = at-if2 .before in
+    let at-u16-at = at-u16-at2 .before in
+    let start = at-u16-at .before .before .before in (
+      most {x = start .args .at + 4} refl (omega arith)
+          (most (at-u16-at2 .u16-at2 .ensures .value) (at-if2 .if2 .left)
+          (most (ap (λ n. start .args .at + 4 + 2 * n) (at-u16-at2 .u16-at2 .ensures .value)) (at-if3 .if3 .left)
+          (least (at-u16-at .u16-at .ensures .value) (omega arith)
+          (below (at-u16-at .u16-at .ensures .value) (omega arith)
+          (none))))),
+      c .layer .ensures .value ∙ ap (layerOf (decode (start .args .file .now))) (at-u16-at .u16-at .ensures .value),
+      (ap (λ n. start .args .at + 4 + 2 * n) (at-u16-at2 .u16-at2 .ensures .value)),
+      at-if3 .if3 .left,
+      omega arith,
+    )
+
+pub header-spec : {M : Type 1} → statement M
+header-spec =
+    tie.close
+    (tie.spec
+    sub-if1
+    cast-t14
+    returns
+    u16-at-requires
+    add-u16-at
+    u16-at-requires-2
+    add-end
+    mul-end
+    add-end-2
+    cast-t16
+    returns-2
+    cast-t18
+    returns-3
+    cast-t20
+    returns-4
+    add-if5
+    cast-t22
+    returns-5
+    layer-requires
+    returns-6)

@@ -1,0 +1,90 @@
+-- `format::check::layerless` meets its contract: no derived atom before i has layer 0.
+use mathlib.Core.Path.{ap, sym, subst, _∙_}
+use Prim.Native.Nat.{ℕ, _≤_, _<_, _-_, _+_, _*_}
+use native.Mathlib.Omega.{arith}
+use borrow.Author.Needs.{needs}
+use borrow.Author.Count.{below-more}
+use Rattle.format.specs.Bytes.{byte}
+use Rattle.format.specs.File.{D}
+use Rattle.format.specs.Refusals.{layerTest, each}
+use Rattle.format.specs.Checked.{Answers}
+use Rattle.format.specs.Laws.First.{each-none, each-fault}
+use Rattle.format.specs.Laws.RulesRead.{layer-passes, layer-fails}
+use Rattle.format.specs.declared.Refusal.the-variants.{Layerless}
+use Rattle.format.specs.declared.check.Found.the-variants.{Nothing, Fault}
+use Rattle.format.proofs.check.layerless.Statement.{statement}
+use Rattle.format.proofs.check.layerless.Tie as tie
+
+abbrev Inv-loop : tie.InvT-loop
+Inv-loop file facts derived rules layers i₀ i = (i ≤ derived) × ((k : ℕ) → k < i → Answers (layerTest file k) Nothing)
+
+abbrev μ-loop : tie.MeasureT-loop
+μ-loop file facts derived rules layers i₀ i = derived - i
+
+mul-layers : tie.Need-mul-layers Inv-loop μ-loop
+mul-layers c = omega arith
+
+add-layers : tie.Need-add-layers Inv-loop μ-loop
+add-layers c = omega arith
+
+loop-holds : tie.Need-loop-holds Inv-loop μ-loop
+loop-holds c = (omega arith, λ k h. absurd (omega arith))
+
+add-u8-at : tie.Need-add-u8-at Inv-loop μ-loop
+add-u8-at c = omega arith
+
+u8-at-requires : tie.Need-u8-at-requires Inv-loop μ-loop
+u8-at-requires c κs = omega arith
+
+add-t11 : tie.Need-add-t11 Inv-loop μ-loop
+add-t11 c = omega arith
+
+cast-t12 : tie.Need-cast-t12 Inv-loop μ-loop
+cast-t12 c = omega arith
+
+returns : tie.Need-returns Inv-loop μ-loop
+returns c =
+    let at-loop = c .before .before .before in
+    let start = at-loop .before .before in
+    subst (λ f. Answers (each (D (start .args .file .now)) (layerTest (start .args .file .now))) (Fault (Layerless (f + at-loop .loop .i)))) (sym (start .pre .facts-are))
+    (each-fault (D (start .args .file .now)) (layerTest (start .args .file .now)) (at-loop .loop .i) (omega arith) (at-loop .loop .inv .1)
+    (layer-fails (start .args .file .now) (at-loop .loop .i) (c .before .u8-at .ensures .value ∙ ap (λ f. byte (start .args .file .now) (28 + 4 * f + at-loop .loop .i)) (start .pre .facts-are)) (c .if1 .taken)))
+
+add-i : tie.Need-add-i Inv-loop μ-loop
+add-i c = omega arith
+
+loop-less : tie.Need-loop-less Inv-loop μ-loop
+loop-less c = omega arith
+
+loop-again : tie.Need-loop-again Inv-loop μ-loop
+loop-again c =
+    let at-loop = c .before .before .before in
+    let start = at-loop .before .before in (
+      omega arith,
+      below-more _ _ (at-loop .loop .inv .1) (layer-passes (start .args .file .now) (at-loop .loop .i)
+          (c .before .u8-at .ensures .value ∙ ap (λ f. byte (start .args .file .now) (28 + 4 * f + at-loop .loop .i)) (start .pre .facts-are)) (c .if1 .left)),
+    )
+
+returns-2 : tie.Need-returns-2 Inv-loop μ-loop
+returns-2 c =
+    let start = c .before .before .before in
+    each-none (D (start .args .file .now)) (layerTest (start .args .file .now)) (λ k h. c .before .loop .inv .1 k (omega arith))
+
+pub layerless-spec : {M : Type 1} → statement M
+layerless-spec =
+    tie.close
+    (tie.spec
+    Inv-loop
+    μ-loop
+    mul-layers
+    add-layers
+    loop-holds
+    add-u8-at
+    u8-at-requires
+    add-t11
+    cast-t12
+    returns
+    add-i
+    loop-less
+    loop-again
+    returns-2)

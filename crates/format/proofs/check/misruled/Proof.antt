@@ -1,0 +1,269 @@
+-- `format::check::misruled` meets its contract: the rules before j, and the literals of rule j before i, have no fault.
+use mathlib.Core.Path.{_≡_, ap, refl, sym, subst, _∙_}
+use mathlib.Core.Logic.{_⊎_, inl, inr, ⊎-elim}
+use Prim.Native.Nat.{ℕ, _≤_, _<_, _-_, _+_, _*_}
+use native.Mathlib.Omega.{arith}
+use borrow.Author.Needs.{needs}
+use borrow.Author.Count.{below-more}
+use Rattle.format.specs.Bytes.{u16}
+use Rattle.format.specs.File.{literalAt, decode}
+use Rattle.format.specs.Refusals.{literalTests, rulesTests}
+use Rattle.format.specs.Checked.{Answers, HeaderRead}
+use Rattle.format.specs.Laws.RulesRead.{
+  Reached,
+  reached-first,
+  reached-next,
+  header-stops,
+  literal-stops,
+  rules-leftover,
+  rules-end,
+  body-length,
+  body-literal,
+  header-is,
+  literal-is,
+  Ended,
+  ended-fault,
+  ended-reached,
+}
+use Rattle.format.specs.declared.Refusal.the-variants.{Broken}
+use Rattle.format.specs.declared.check.Found.the-variants.{Nothing, Fault}
+use Rattle.format.specs.declared.check.Head.the-variants as head
+use Rattle.format.proofs.check.misruled.Statement.{statement}
+use Rattle.format.proofs.check.misruled.Tie as tie
+
+abbrev Inv-loop : tie.InvT-loop
+Inv-loop file facts derived rules found₀ at j top end start body literals i₀ found i =
+    (found ≡ Nothing) × (i ≤ literals) × ((k : ℕ) → k < i → Answers (literalTests (decode file) j (u16 file at) (literalAt file at k)) Nothing)
+
+abbrev μ-loop : tie.MeasureT-loop
+μ-loop file facts derived rules found₀ at j top end start body literals i₀ found i = literals - i
+
+abbrev Inv-rules : tie.InvT-rules
+Inv-rules file facts derived rules found₀ at₀ j₀ found at j = (found ≡ Nothing) × (j ≤ rules) × Reached file j at
+
+abbrev μ-rules : tie.MeasureT-rules
+μ-rules file facts derived rules found₀ at₀ j₀ found at j = rules - j
+
+mul-at : tie.Need-mul-at Inv-loop μ-loop Inv-rules μ-rules
+mul-at c = omega arith
+
+add-at : tie.Need-add-at Inv-loop μ-loop Inv-rules μ-rules
+add-at c = omega arith
+
+add-at-2 : tie.Need-add-at-2 Inv-loop μ-loop Inv-rules μ-rules
+add-at-2 c = omega arith
+
+rules-holds : tie.Need-rules-holds Inv-loop μ-loop Inv-rules μ-rules
+rules-holds c = (refl, omega arith, reached-first (c .before .args .file .now) (c .before .pre .fits) (omega arith))
+
+header-requires : tie.Need-header-requires Inv-loop μ-loop Inv-rules μ-rules
+header-requires c κs =
+    let start = c .before .before .before in
+    record { framed = start .pre; below = c .rules-test .taken; inside = c .before .rules .inv .2 .inside }
+
+enum-known-w : tie.Need-enum-known-w Inv-loop μ-loop Inv-rules μ-rules
+enum-known-w c = search needs
+
+enum-known-top : tie.Need-enum-known-top Inv-loop μ-loop Inv-rules μ-rules
+enum-known-top c = search needs
+
+-- the rule whose header was read
+rule :
+    (c : tie.After-known-told2 Inv-loop μ-loop Inv-rules μ-rules) →
+    HeaderRead (c .before .before .before .before .before .before .before .args .file .now) (c .before .before .before .before .before .rules .j) (c .before .before .before .before .before .rules .at) (head.Rule (c .before .top .given .0 .0) (c .before .top .given .0 .1 .0))
+rule c =
+    let at-header = c .before .before .before in
+    let at-rules = at-header .before .before in
+    let start = at-rules .before .before in
+    header-is (start .args .file .now) (at-rules .rules .j) (at-rules .rules .at) (at-header .header .ensures) (c .before .top .given .1)
+
+add-start : tie.Need-add-start Inv-loop μ-loop Inv-rules μ-rules
+add-start c =
+    let start = c .before .before .before .before .before .before .before in
+    omega (arith, rule c .3, rule c .4, start .pre .size)
+
+sub-body : tie.Need-sub-body Inv-loop μ-loop Inv-rules μ-rules
+sub-body c = rule c .4
+
+part-body-start : tie.Need-part-body-start Inv-loop μ-loop Inv-rules μ-rules
+part-body-start c = rule c .4
+
+part-body-end : tie.Need-part-body-end Inv-loop μ-loop Inv-rules μ-rules
+part-body-end c = rule c .3
+
+loop-holds : tie.Need-loop-holds Inv-loop μ-loop Inv-rules μ-rules
+loop-holds c =
+    let at-rules = c .before .before .before .before .before .before in
+    (at-rules .rules .inv .0, omega arith, λ k h. absurd (omega arith))
+
+mul-u16-at : tie.Need-mul-u16-at Inv-loop μ-loop Inv-rules μ-rules
+mul-u16-at c =
+    let at-known-told2 = c .before .before .before in
+    let at-rules = at-known-told2 .before .before .before .before .before in
+    let start = at-rules .before .before in
+    omega (arith, body-length (start .args .file .now) (at-rules .rules .at) (rule (at-known-told2) .2) (rule (at-known-told2) .3), rule (at-known-told2) .3, start .pre .size)
+
+u16-at-requires : tie.Need-u16-at-requires Inv-loop μ-loop Inv-rules μ-rules
+u16-at-requires c κs = omega (arith, c .loop-test .taken)
+
+literal-requires : tie.Need-literal-requires Inv-loop μ-loop Inv-rules μ-rules
+literal-requires c κs =
+    let at-rules-test = c .before .before .before .before .before .before .before .before in
+    let start = at-rules-test .before .before .before in
+    record { framed = start .pre; below = at-rules-test .rules-test .taken }
+
+enum-known-w-2 : tie.Need-enum-known-w-2 Inv-loop μ-loop Inv-rules μ-rules
+enum-known-w-2 c = search needs
+
+enum-told : tie.Need-enum-told Inv-loop μ-loop Inv-rules μ-rules
+enum-told c = search needs
+
+add-i : tie.Need-add-i Inv-loop μ-loop Inv-rules μ-rules
+add-i c =
+    let at-loop-test = c .before .before .before .before in
+    let at-known-told2 = at-loop-test .before .before .before in
+    let at-rules = at-known-told2 .before .before .before .before .before in
+    let start = at-rules .before .before in
+    omega (arith, at-loop-test .loop-test .taken, body-length (start .args .file .now) (at-rules .rules .at) (rule (at-known-told2) .2) (rule (at-known-told2) .3), rule (at-known-told2) .3, start .pre .size)
+
+loop-less : tie.Need-loop-less Inv-loop μ-loop Inv-rules μ-rules
+loop-less c =
+    let at-loop-test = c .before .before .before .before in
+    omega (arith, at-loop-test .loop-test .taken)
+
+loop-again : tie.Need-loop-again Inv-loop μ-loop Inv-rules μ-rules
+loop-again c =
+    let at-literal = c .before .before in
+    let at-u16-at = at-literal .before in
+    let at-loop-test = at-u16-at .before in
+    let at-loop = at-loop-test .before in
+    let at-known-told2 = at-loop .before .before in
+    let at-rules = at-known-told2 .before .before .before .before .before in
+    let start = at-rules .before .before in (
+      at-loop .loop .inv .0,
+      omega (arith, at-loop-test .loop-test .taken),
+      below-more _ _ (at-loop .loop .inv .2)
+          (literal-is (start .args .file .now) (at-rules .rules .j) (at-rules .rules .at) (at-literal .literal .ensures) (c .enum-told .given .1) (rule (at-known-told2) .1) (at-loop .loop .i)
+          (body-literal (start .args .file .now) (at-rules .rules .at) (rule (at-known-told2) .2) (rule (at-known-told2) .3) (at-loop .loop .i) (omega (arith, body-length (start .args .file .now) (at-rules .rules .at) (rule (at-known-told2) .2) (rule (at-known-told2) .3), at-loop-test .loop-test .taken)) (at-u16-at .u16-at .ensures .value))),
+    )
+
+add-j : tie.Need-add-j Inv-loop μ-loop Inv-rules μ-rules
+add-j c =
+    let at-rules-test = c .before .before .before .before .before .before .before in
+    let start = at-rules-test .before .before .before in
+    omega (arith, at-rules-test .rules-test .taken, start .pre .few-rules)
+
+rules-less : tie.Need-rules-less Inv-loop μ-loop Inv-rules μ-rules
+rules-less c =
+    let at-rules-test = c .before .before .before .before .before .before .before in
+    omega (arith, at-rules-test .rules-test .taken)
+
+rules-again : tie.Need-rules-again Inv-loop μ-loop Inv-rules μ-rules
+rules-again c =
+    let at-known-told2 = c .before .before .before in
+    let at-rules-test = at-known-told2 .before .before .before .before in
+    let at-rules = at-rules-test .before in
+    let start = at-rules .before .before in (
+      c .before .loop .inv .0,
+      omega (arith, at-rules-test .rules-test .taken),
+      reached-next (start .args .file .now) (at-rules .rules .j) (at-rules .rules .at) (at-rules .rules .inv .2) (rule (at-known-told2) .0) (rule (at-known-told2) .2) (rule (at-known-told2) .3)
+          (λ k h. c .before .loop .inv .2 k (omega (arith, c .loop-test .left, body-length (start .args .file .now) (at-rules .rules .at) (rule (at-known-told2) .2) (rule (at-known-told2) .3)))),
+    )
+
+-- where the ways out of the loops meet
+met : (c : tie.Left-rules Inv-loop μ-loop Inv-rules μ-rules) → Ended (c .before .before .before .args .file .now) (c .before .rules .j) (c .before .rules .at) (c .rules-test .found)
+met c =
+    let start = c .before .before .before in
+    ⊎-elim
+    (λ v. inl (v .1 ∙ c .before .rules .inv .0, omega (arith, v .0 .left, start .pre .rules-are), c .before .rules .inv .2))
+    (λ u. inr (⊎-elim
+    (λ v. (
+      v .3 .given .0 .0,
+      v .5,
+      header-stops (start .args .file .now) (c .before .rules .j) (c .before .rules .at) (c .before .rules .inv .2) (omega (arith, v .0 .taken, start .pre .rules-are))
+          (header-is (start .args .file .now) (c .before .rules .j) (c .before .rules .at) (v .1 .ensures) (v .3 .given .1)),
+    ))
+    (λ v.
+    let r = header-is (start .args .file .now) (c .before .rules .j) (c .before .rules .at) (v .1 .ensures) (v .3 .given .1) in
+    let below : v .6 .i < u16 (start .args .file .now) (c .before .rules .at + 2) =
+    omega (arith, body-length (start .args .file .now) (c .before .rules .at) (r .2) (r .3), v .7 .taken) in (
+      v .11 .given .0 .0,
+      v .13,
+      literal-stops (start .args .file .now) (c .before .rules .j) (c .before .rules .at) (c .before .rules .inv .2) (omega (arith, v .0 .taken, start .pre .rules-are)) (r .0)
+          (v .6 .i) below (v .6 .inv .2)
+          (literal-is (start .args .file .now) (c .before .rules .j) (c .before .rules .at) (v .9 .ensures) (v .11 .given .1) (r .1) (v .6 .i)
+          (body-literal (start .args .file .now) (c .before .rules .at) (r .2) (r .3) (v .6 .i) below (v .8 .ensures .value))),
+    ))
+    u))
+    (c .rules-test .came)
+
+enum-known-found : tie.Need-enum-known-found Inv-loop μ-loop Inv-rules μ-rules
+enum-known-found c = search needs
+
+returns : tie.Need-returns Inv-loop μ-loop Inv-rules μ-rules
+returns c =
+    let at-rules-test = c .before .before .before in
+    let at-rules = at-rules-test .before in
+    let start = at-rules .before .before in
+    ended-fault (start .args .file .now) (at-rules .rules .j) (at-rules .rules .at) (met (at-rules-test)) (c .before .found .given .1)
+
+enum-told-2 : tie.Need-enum-told-2 Inv-loop μ-loop Inv-rules μ-rules
+enum-told-2 c = search needs
+
+cast-t29 : tie.Need-cast-t29 Inv-loop μ-loop Inv-rules μ-rules
+cast-t29 c = omega arith
+
+returns-2 : tie.Need-returns-2 Inv-loop μ-loop Inv-rules μ-rules
+returns-2 c =
+    let at-rules-test = c .before .before .before in
+    let at-rules = at-rules-test .before in
+    let start = at-rules .before .before in
+    subst (λ n. Answers (rulesTests (start .args .file .now)) (Fault (Broken n))) (sym (start .pre .rules-are))
+    (rules-leftover (start .args .file .now) (at-rules .rules .at)
+    (ended-reached (start .args .file .now) (at-rules .rules .j) (at-rules .rules .at) (met (at-rules-test)) (c .before .enum-told2 .given .1) (omega (arith, at-rules .rules .inv .1, start .pre .rules-are))) (c .if1 .taken))
+
+returns-3 : tie.Need-returns-3 Inv-loop μ-loop Inv-rules μ-rules
+returns-3 c =
+    let at-rules-test = c .before .before .before in
+    let at-rules = at-rules-test .before in
+    let start = at-rules .before .before in
+    rules-end (start .args .file .now) (at-rules .rules .at)
+    (ended-reached (start .args .file .now) (at-rules .rules .j) (at-rules .rules .at) (met (at-rules-test)) (c .before .enum-told2 .given .1) (omega (arith, at-rules .rules .inv .1, start .pre .rules-are))) (c .if1 .left)
+
+pub misruled-spec : {M : Type 1} → statement M
+misruled-spec =
+    tie.close
+    (tie.spec
+    Inv-loop
+    μ-loop
+    Inv-rules
+    μ-rules
+    mul-at
+    add-at
+    add-at-2
+    rules-holds
+    header-requires
+    enum-known-w
+    enum-known-top
+    add-start
+    sub-body
+    part-body-start
+    part-body-end
+    loop-holds
+    mul-u16-at
+    u16-at-requires
+    literal-requires
+    enum-known-w-2
+    enum-told
+    add-i
+    loop-less
+    loop-again
+    add-j
+    rules-less
+    rules-again
+    enum-known-found
+    returns
+    enum-told-2
+    cast-t29
+    returns-2
+    returns-3)

@@ -1,0 +1,11 @@
+pub mod First
+pub mod Compared
+pub mod Decoded
+pub mod FactsRead
+pub mod RulesRead
+pub mod Whole
+pub mod Accepted
+pub mod Passing
+pub mod Reading
+pub mod Encoded
+pub mod Walked

@@ -1,0 +1,74 @@
+//! The independent test program: written from document 01 and reach.h alone, it shares no line with the library.
+//!
+//!     rustc --edition 2021 -O -D warnings tests/independent/main.rs \
+//!         -L native=target/staticlib -l static=reach -o target/tests/independent
+//!     target/tests/independent [SCALE]
+//!
+//! SCALE (1 where none is given) multiplies the number of files made by chance. The same scale gives the same
+//! files on every machine.
+
+mod boundary;
+mod chance;
+mod compare;
+mod corpus;
+mod damage;
+mod encode;
+mod file;
+mod legal;
+mod model;
+mod mutants;
+mod orders;
+mod paper;
+mod program;
+mod random;
+mod report;
+mod shapes;
+mod totals;
+mod worked;
+
+use compare::Met;
+use report::Report;
+use std::process::exit;
+
+fn main() {
+    let scale = scale();
+    let mut report = Report::default();
+    check_self(&mut report);
+    let mut met = Met::new();
+    report.add("library: NULL of length 0", compare::null());
+    for group in corpus::groups(scale) {
+        let name = format!("library: {}", group.name);
+        report.add(&name, met.group(group));
+    }
+    report.add("corpus: every refusal met", met.every_answer());
+    report_mutants(&mut report, met);
+    exit(if report.finish() { 0 } else { 1 });
+}
+
+fn scale() -> u64 {
+    let Some(text) = std::env::args().nth(1) else { return 1 };
+    text.parse().unwrap_or_else(|_| {
+        eprintln!("the scale is a whole number, not {text}");
+        exit(2);
+    })
+}
+
+fn check_self(report: &mut Report) {
+    report.add("self: file S", paper::file_s());
+    report.add("self: worked weights", paper::weights());
+    report.add("self: edges", paper::edges());
+    report.add("self: refusals by hand", paper::refusals());
+    report.add("self: read after writing", paper::round_trip());
+    report.add("self: written after reading", paper::read_and_written());
+    report.add("self: totals by reader and model", paper::totals_agree());
+}
+
+/// A mutant passes where one file showed it.
+fn report_mutants(report: &mut Report, met: Met) {
+    for (mutant, place) in met.watch.shown {
+        report.add(&format!("mutant {mutant:?} shown by {place}"), Ok(1));
+    }
+    for mutant in met.watch.hidden {
+        report.add(&format!("mutant {mutant:?}"), Err("no file of the corpus shows it".to_string()));
+    }
+}
