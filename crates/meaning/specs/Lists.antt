@@ -1,4 +1,5 @@
--- Finite lists, as the definitions use them. The toolchain's `any`, `all` and `sum` do not compute outside their module, so these stand here.
+-- Finite lists, as the definitions use them.
+-- The toolchain's `any`, `all` and `sum` do not compute outside their module, so these stand here.
 use mathlib.Core.Bool.{Bool, true, false, _&&_, _||_}
 use mathlib.Core.List.{List, [], _∷_}
 use Prim.Native.Nat.{ℕ, zero, suc, _+_}

@@ -112,7 +112,10 @@ module _ (s : List ℕ) where
     reached-next b e q r = rw (add-one j) (record {
       start = e ∙ ap (after s) (here .start);
       inside = q;
-      passed = λ k p. elim (decLt k j) [ yes l ↦ here .passed k l | no l ↦ subst (λ z. Answers (ruleTests s z) Nothing) (omega (arith, l)) whole ];
+      passed = λ k p. elim (decLt k j) [
+        | yes l ↦ here .passed k l
+        | no l ↦ subst (λ z. Answers (ruleTests s z) Nothing) (omega (arith, l)) whole
+      ];
     })
       where
         whole : Answers (ruleTests s j) Nothing
@@ -144,7 +147,12 @@ module _ (s : List ℕ) (at : ℕ) {end : ℕ} (ends : end ≡ after s at) (pres
   -- literal i at byte 2 × i
   pub body-literal : (i : ℕ) → i < u16 s (at + 2) → {x : ℕ} → x ≡ u16 bodyBytes (2 * i) → literal x ≡ literalAt s at i
   unfolding after literalAt u16
-  body-literal i h e = ap literal (e ∙ ap₂ (λ a b. a + 256 * b) (part-byte (2 * i) (omega arith)) (part-byte (2 * i + 1) (omega arith) ∙ ap (byte s) (omega arith)))
+  body-literal i h e =
+      ap literal
+      (e ∙
+      ap₂ (λ a b. a + 256 * b)
+      (part-byte (2 * i) (omega arith))
+      (part-byte (2 * i + 1) (omega arith) ∙ ap (byte s) (omega arith)))
     where
       part-byte : (k : ℕ) → k < end - (at + 4) → byte bodyBytes k ≡ byte s (at + 4 + k)
       part-byte k q = getD-take (end - (at + 4)) (drop (at + 4) s) k 0 q ∙ getD-drop (at + 4) s k 0

@@ -1,9 +1,10 @@
 -- `format::check::check` meets its contract: after each part, the tests that are left answer what the whole check answers.
-use mathlib.Core.Path.{sym, _∙_}
-use Prim.Native.Nat.{ℕ, _≤_, _<_, _-_, _+_, _*_}
-use native.Mathlib.Omega.{arith}
+use mathlib.Core.List.{List}
+use Prim.Native.Nat.{ℕ}
 use borrow.Author.Needs.{needs}
-use Rattle.format.specs.Checked.{Framed}
+use Rattle.format.specs.File.{F}
+use Rattle.format.specs.Refusals.{countsTests, offsetTests, factTest, each}
+use Rattle.format.specs.Checked.{Answers, Framed}
 use Rattle.format.specs.Laws.Whole.{
   after1,
   after2,
@@ -27,67 +28,94 @@ use Rattle.format.specs.Laws.Whole.{
   framed,
   weighed,
 }
+use Rattle.format.specs.declared.check.Found.the-variants.{Nothing}
 use Rattle.format.proofs.check.check.Statement.{statement}
 use Rattle.format.proofs.check.check.Tie as tie
 
--- what is left after each part that found no fault
-left1 : (c : tie.Else2) → Left (c .before .before .before .args .file .now) (after1 (c .before .before .before .args .file .now))
-left1 c =
-    let start = c .before .before .before in
-    sized (start .args .file .now) (c .before .if1 .left) (c .if2 .left)
+-- ---- the places
 
-left2 : (c : tie.After-enum-told) → Left (c .before .before .before .before .before .before .args .file .now) (after2 (c .before .before .before .before .before .before .args .file .now))
-left2 c =
-    let at-contents = c .before .before in
-    let at-if2 = at-contents .before in
-    passes _ _ (left1 (at-if2)) (answers-is (at-contents .contents .ensures) (c .enum-told .given .1))
+-- the file, where part 1, 2, 3, 4 has found no fault,
+abbrev file1 : tie.Else2 → List ℕ
+file1 c = c .before .before .before .args .file .now
 
-left3 : (c : tie.After-enum-told2) → Left (c .before .before .before .before .before .before .before .before .before .args .file .now) (after3 (c .before .before .before .before .before .before .before .before .before .args .file .now))
-left3 c =
-    let at-counts = c .before .before in
-    let at-enum-told = at-counts .before in
-    passes _ _ (left2 (at-enum-told)) (answers-is (at-counts .counts .ensures) (c .enum-told2 .given .1))
+abbrev file2 : tie.After-enum-told → List ℕ
+file2 c = file1 (c .before .before .before)
 
-left4 : (c : tie.After-enum-told3) → Left (c .before .before .before .before .before .before .before .before .before .before .before .before .args .file .now) (after4 (c .before .before .before .before .before .before .before .before .before .before .before .before .args .file .now))
-left4 c =
-    let at-offsets = c .before .before in
-    let at-enum-told2 = at-offsets .before in
-    passes _ _ (left3 (at-enum-told2)) (answers-is (at-offsets .offsets .ensures) (c .enum-told3 .given .1))
+abbrev file3 : tie.After-enum-told2 → List ℕ
+file3 c = file2 (c .before .before .before)
+
+abbrev file4 : tie.After-enum-told3 → List ℕ
+file4 c = file3 (c .before .before .before)
+
+-- and where the three counts have been read
+abbrev file : tie.After-u16-at3 → List ℕ
+file c = file4 (c .before .before .before)
+
+-- that place, from where part 5, 6, 7 has found no fault
+abbrev read5 : tie.After-enum-told4 → tie.After-u16-at3
+read5 c = c .before .before .before
+
+abbrev read6 : tie.After-known-told5 → tie.After-u16-at3
+read6 c = read5 (c .before .before .before .before)
+
+abbrev read7 : tie.After-enum-told6 → tie.After-u16-at3
+read7 c = read6 (c .before .before .before)
+
+-- ---- the parts that later parts rest on
+
+-- no fault in the counts,
+counts-pass : (c : tie.After-enum-told2) → Answers (countsTests (file3 c)) Nothing
+counts-pass c = answers-is (c .before .before .counts .ensures) (c .enum-told2 .given .1)
+
+-- in the offsets,
+offsets-pass : (c : tie.After-enum-told3) → Answers (offsetTests (file4 c)) Nothing
+offsets-pass c = answers-is (c .before .before .offsets .ensures) (c .enum-told3 .given .1)
+
+-- or in the facts
+facts-pass : (c : tie.After-enum-told4) → Answers (each (F (file (read5 c))) (factTest (file (read5 c)))) Nothing
+facts-pass c = answers-is (c .before .before .weightless .ensures) (c .enum-told4 .given .1)
 
 -- the counts, read off a file that passed 1 to 4
-frame :
-    (c : tie.After-u16-at3) →
-    Framed (c .before .before .before .before .before .before .before .before .before .before .before .before .before .before .before .args .file .now) (c .before .before .u16-at .result) (c .before .u16-at2 .result) (c .u16-at3 .result)
+frame : (c : tie.After-u16-at3) → Framed (file c) (c .before .before .u16-at .result) (c .before .u16-at2 .result) (c .u16-at3 .result)
 frame c =
-    let at-u16-at = c .before .before in
+    let at-u16-at2 = c .before in
+    let at-u16-at = at-u16-at2 .before in
     let at-enum-told3 = at-u16-at .before in
-    let at-offsets = at-enum-told3 .before .before in
-    let at-enum-told2 = at-offsets .before in
-    let at-counts = at-enum-told2 .before .before in
-    let at-if2 = at-counts .before .before .before .before in
-    let start = at-if2 .before .before .before in
-    framed (start .args .file .now) (at-if2 .if2 .left) (answers-is (at-counts .counts .ensures) (at-enum-told2 .enum-told2 .given .1))
-    (answers-is (at-offsets .offsets .ensures) (at-enum-told3 .enum-told3 .given .1))
-    (at-u16-at .u16-at .ensures .value) (c .before .u16-at2 .ensures .value) (c .u16-at3 .ensures .value)
+    let at-enum-told2 = at-enum-told3 .before .before .before in
+    let at-if2 = at-enum-told2 .before .before .before .before .before .before in
+    framed (file c) (at-if2 .if2 .left) (counts-pass at-enum-told2) (offsets-pass at-enum-told3)
+    (at-u16-at .u16-at .ensures .value) (at-u16-at2 .u16-at2 .ensures .value) (c .u16-at3 .ensures .value)
 
-left5 : (c : tie.After-enum-told4) → Left (c .before .before .before .before .before .before .before .before .before .before .before .before .before .before .before .before .before .before .args .file .now) (after5 (c .before .before .before .before .before .before .before .before .before .before .before .before .before .before .before .before .before .before .args .file .now))
-left5 c =
-    let at-weightless = c .before .before in
-    let at-enum-told3 = at-weightless .before .before .before .before in
-    passes _ _ (left4 (at-enum-told3)) (answers-is (at-weightless .weightless .ensures) (c .enum-told4 .given .1))
+-- ---- what is left after each part that found no fault
 
-left6 : (c : tie.After-known-told5) → Left (c .before .before .before .before .before .before .before .before .before .before .before .before .before .before .before .before .before .before .before .before .before .before .args .file .now) (after6 (c .before .before .before .before .before .before .before .before .before .before .before .before .before .before .before .before .before .before .before .before .before .before .args .file .now))
+left1 : (c : tie.Else2) → Left (file1 c) (after1 (file1 c))
+left1 c = sized (file1 c) (c .before .if1 .left) (c .if2 .left)
+
+left2 : (c : tie.After-enum-told) → Left (file2 c) (after2 (file2 c))
+left2 c =
+    let at-contents = c .before .before in
+    passes _ _ (left1 (at-contents .before)) (answers-is (at-contents .contents .ensures) (c .enum-told .given .1))
+
+left3 : (c : tie.After-enum-told2) → Left (file3 c) (after3 (file3 c))
+left3 c = passes _ _ (left2 (c .before .before .before)) (counts-pass c)
+
+left4 : (c : tie.After-enum-told3) → Left (file4 c) (after4 (file4 c))
+left4 c = passes _ _ (left3 (c .before .before .before)) (offsets-pass c)
+
+left5 : (c : tie.After-enum-told4) → Left (file (read5 c)) (after5 (file (read5 c)))
+left5 c = passes _ _ (left4 (read5 c .before .before .before)) (facts-pass c)
+
+left6 : (c : tie.After-known-told5) → Left (file (read6 c)) (after6 (file (read6 c)))
 left6 c =
     let at-product = c .before .before .before in
-    let at-enum-told4 = at-product .before in
-    let start = at-enum-told4 .before .before .before .before .before .before .before .before .before .before .before .before .before .before .before .before .before .before in
-    passes _ _ (left5 (at-enum-told4)) (total-passes (start .args .file .now) (at-product .product .ensures) (c .before .total .given .1))
+    passes _ _ (left5 (at-product .before)) (total-passes (file (read6 c)) (at-product .product .ensures) (c .before .total .given .1))
 
-left7 : (c : tie.After-enum-told6) → Left (c .before .before .before .before .before .before .before .before .before .before .before .before .before .before .before .before .before .before .before .before .before .before .before .before .before .args .file .now) (after7 (c .before .before .before .before .before .before .before .before .before .before .before .before .before .before .before .before .before .before .before .before .before .before .before .before .before .args .file .now))
+left7 : (c : tie.After-enum-told6) → Left (file (read7 c)) (after7 (file (read7 c)))
 left7 c =
     let at-layerless = c .before .before in
-    let at-known-told5 = at-layerless .before in
-    passes _ _ (left6 (at-known-told5)) (answers-is (at-layerless .layerless .ensures) (c .enum-told6 .given .1))
+    passes _ _ (left6 (at-layerless .before)) (answers-is (at-layerless .layerless .ensures) (c .enum-told6 .given .1))
+
+-- ---- the answers
 
 returns : tie.Need-returns
 returns c =
@@ -108,8 +136,7 @@ enum-known-w c = search needs
 returns-3 : tie.Need-returns-3
 returns-3 c =
     let at-contents = c .before .before .before in
-    let at-if2 = at-contents .before in
-    refuses _ _ (left1 (at-if2)) (answers-is (at-contents .contents .ensures) (c .before .w .given .1))
+    refuses _ _ (left1 (at-contents .before)) (answers-is (at-contents .contents .ensures) (c .before .w .given .1))
 
 enum-told : tie.Need-enum-told
 enum-told c = search needs
@@ -123,8 +150,7 @@ enum-known-w-2 c = search needs
 returns-4 : tie.Need-returns-4
 returns-4 c =
     let at-counts = c .before .before .before in
-    let at-enum-told = at-counts .before in
-    refuses _ _ (left2 (at-enum-told)) (answers-is (at-counts .counts .ensures) (c .before .w2 .given .1))
+    refuses _ _ (left2 (at-counts .before)) (answers-is (at-counts .counts .ensures) (c .before .w2 .given .1))
 
 enum-told-2 : tie.Need-enum-told-2
 enum-told-2 c = search needs
@@ -138,8 +164,7 @@ enum-known-w-3 c = search needs
 returns-5 : tie.Need-returns-5
 returns-5 c =
     let at-offsets = c .before .before .before in
-    let at-enum-told2 = at-offsets .before in
-    refuses _ _ (left3 (at-enum-told2)) (answers-is (at-offsets .offsets .ensures) (c .before .w3 .given .1))
+    refuses _ _ (left3 (at-offsets .before)) (answers-is (at-offsets .offsets .ensures) (c .before .w3 .given .1))
 
 enum-told-3 : tie.Need-enum-told-3
 enum-told-3 c = search needs
@@ -163,17 +188,13 @@ returns-6 : tie.Need-returns-6
 returns-6 c =
     let at-weightless = c .before .before .before in
     let at-enum-told3 = at-weightless .before .before .before .before in
-    refuses _ _ (left4 (at-enum-told3)) (answers-is (at-weightless .weightless .ensures) (c .before .w4 .given .1))
+    refuses _ _ (left4 at-enum-told3) (answers-is (at-weightless .weightless .ensures) (c .before .w4 .given .1))
 
 enum-told-4 : tie.Need-enum-told-4
 enum-told-4 c = search needs
 
 product-requires : tie.Need-product-requires
-product-requires c κs =
-    let at-weightless = c .before .before in
-    let at-u16-at3 = at-weightless .before in
-    let start = at-u16-at3 .before .before .before .before .before .before .before .before .before .before .before .before .before .before .before in
-    weighed (start .args .file .now) (frame (at-u16-at3)) (answers-is (at-weightless .weightless .ensures) (c .enum-told4 .given .1))
+product-requires c κs = weighed (file (read5 c)) (frame (read5 c)) (facts-pass c)
 
 enum-known-total : tie.Need-enum-known-total
 enum-known-total c = search needs
@@ -185,13 +206,10 @@ returns-7 : tie.Need-returns-7
 returns-7 c =
     let at-product = c .before .before in
     let at-enum-told4 = at-product .before in
-    let start = at-enum-told4 .before .before .before .before .before .before .before .before .before .before .before .before .before .before .before .before .before .before in
-    refuses _ _ (left5 (at-enum-told4)) (total-fails (start .args .file .now) (at-product .product .ensures) (c .enum-told5 .given .1))
+    refuses _ _ (left5 at-enum-told4) (total-fails (file (read5 at-enum-told4)) (at-product .product .ensures) (c .enum-told5 .given .1))
 
 layerless-requires : tie.Need-layerless-requires
-layerless-requires c κs =
-    let at-u16-at3 = c .before .before .before .before .before .before .before in
-    frame (at-u16-at3)
+layerless-requires c κs = frame (read6 c)
 
 enum-known-w-5 : tie.Need-enum-known-w-5
 enum-known-w-5 c = search needs
@@ -199,16 +217,13 @@ enum-known-w-5 c = search needs
 returns-8 : tie.Need-returns-8
 returns-8 c =
     let at-layerless = c .before .before .before in
-    let at-known-told5 = at-layerless .before in
-    refuses _ _ (left6 (at-known-told5)) (answers-is (at-layerless .layerless .ensures) (c .before .w5 .given .1))
+    refuses _ _ (left6 (at-layerless .before)) (answers-is (at-layerless .layerless .ensures) (c .before .w5 .given .1))
 
 enum-told-6 : tie.Need-enum-told-6
 enum-told-6 c = search needs
 
 misruled-requires : tie.Need-misruled-requires
-misruled-requires c κs =
-    let at-u16-at3 = c .before .before .before .before .before .before .before .before .before .before in
-    frame (at-u16-at3)
+misruled-requires c κs = frame (read7 c)
 
 enum-known-w-6 : tie.Need-enum-known-w-6
 enum-known-w-6 c = search needs
@@ -217,8 +232,7 @@ returns-9 : tie.Need-returns-9
 returns-9 c =
     let at-misruled = c .before .before .before in
     let at-enum-told6 = at-misruled .before in
-    let start = at-enum-told6 .before .before .before .before .before .before .before .before .before .before .before .before .before .before .before .before .before .before .before .before .before .before .before .before .before in
-    refuses-last (start .args .file .now) (left7 (at-enum-told6)) (answers-is (at-misruled .misruled .ensures) (c .before .w6 .given .1))
+    refuses-last (file (read7 at-enum-told6)) (left7 at-enum-told6) (answers-is (at-misruled .misruled .ensures) (c .before .w6 .given .1))
 
 enum-told-7 : tie.Need-enum-told-7
 enum-told-7 c = search needs
@@ -238,13 +252,12 @@ returns-10 c =
     let at-enum-told6 = at-misruled .before in
     let at-total = at-enum-told6 .before .before .before .before in
     let at-product = at-total .before .before in
-    let at-u16-at3 = at-product .before .before .before .before in
+    let at-u16-at3 = read7 at-enum-told6 in
     let at-u16-at2 = at-u16-at3 .before in
     let at-u16-at = at-u16-at2 .before in
-    let start = at-u16-at .before .before .before .before .before .before .before .before .before .before .before .before .before in
-    accepts (start .args .file .now) (left7 (at-enum-told6)) (answers-is (at-misruled .misruled .ensures) (c .enum-told7 .given .1))
+    accepts (file at-u16-at3) (left7 at-enum-told6) (answers-is (at-misruled .misruled .ensures) (c .enum-told7 .given .1))
     (at-u16-at .u16-at .ensures .value) (at-u16-at2 .u16-at2 .ensures .value) (at-u16-at3 .u16-at3 .ensures .value)
-    (total-is (start .args .file .now) (at-product .product .ensures) (at-total .total .given .1))
+    (total-is (file at-u16-at3) (at-product .product .ensures) (at-total .total .given .1))
 
 pub check-spec : {M : Type 1} → statement M
 check-spec =

@@ -1,6 +1,6 @@
 -- `format::check::header` meets its contract: each branch passes its test or is its fault.
 use mathlib.Core.Path.{ap, refl, _∙_}
-use Prim.Native.Nat.{ℕ, _≤_, _<_, _-_, _+_, _*_}
+use Prim.Native.Nat.{_+_, _*_}
 use native.Mathlib.Omega.{arith}
 use borrow.Author.Needs.{needs}
 use Rattle.meaning.specs.Meaning.{layerOf}
@@ -108,15 +108,16 @@ returns-6 c =
     let at-if2 = at-if3 .before in
     let at-u16-at2 = at-if2 .before in
     let at-u16-at = at-u16-at2 .before in
-    let start = at-u16-at .before .before .before in (
+    let start = at-u16-at .before .before .before in
+    let ends = ap (λ n. start .args .at + 4 + 2 * n) (at-u16-at2 .u16-at2 .ensures .value) in (
       most {x = start .args .at + 4} refl (omega arith)
           (most (at-u16-at2 .u16-at2 .ensures .value) (at-if2 .if2 .left)
-          (most (ap (λ n. start .args .at + 4 + 2 * n) (at-u16-at2 .u16-at2 .ensures .value)) (at-if3 .if3 .left)
+          (most ends (at-if3 .if3 .left)
           (least (at-u16-at .u16-at .ensures .value) (omega arith)
           (below (at-u16-at .u16-at .ensures .value) (omega arith)
-          (none))))),
+          none)))),
       c .layer .ensures .value ∙ ap (layerOf (decode (start .args .file .now))) (at-u16-at .u16-at .ensures .value),
-      (ap (λ n. start .args .at + 4 + 2 * n) (at-u16-at2 .u16-at2 .ensures .value)),
+      ends,
       at-if3 .if3 .left,
       omega arith,
     )

@@ -25,12 +25,14 @@ u8-at-requires : tie.Need-u8-at-requires
 u8-at-requires c κs = search needs
 
 -- what was read and multiplied
-read :
-    (c : tie.After-u8-at) →
-    LayerOf (c .before .before .args .file .now) (c .before .before .args .atom) (c .u8-at .result * boolByte (leb (c .before .before .args .facts) (c .before .before .args .atom)))
-read c =
-    let start = c .before .before in
-    layer-read (start .args .file .now) (start .args .atom) (start .pre .0 .facts-are) (omega arith) (c .u8-at .ensures .value) (c .u8-at .ensures .small)
+module _ (c : tie.After-u8-at) where
+  abbrev start : tie.Start
+  start = c .before .before
+
+  read : LayerOf (start .args .file .now) (start .args .atom) (c .u8-at .result * boolByte (leb (start .args .facts) (start .args .atom)))
+  read =
+      layer-read (start .args .file .now) (start .args .atom) (start .pre .0 .facts-are) (omega arith)
+      (c .u8-at .ensures .value) (c .u8-at .ensures .small)
 
 mul-result : tie.Need-mul-result
 mul-result c = omega (arith, read c .small)

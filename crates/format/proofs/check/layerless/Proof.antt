@@ -1,11 +1,11 @@
 -- `format::check::layerless` meets its contract: no derived atom before i has layer 0.
-use mathlib.Core.Path.{ap, sym, subst, _∙_}
+use mathlib.Core.Path.{_≡_, ap, sym, subst, _∙_}
+use mathlib.Core.List.{List}
 use Prim.Native.Nat.{ℕ, _≤_, _<_, _-_, _+_, _*_}
 use native.Mathlib.Omega.{arith}
-use borrow.Author.Needs.{needs}
 use borrow.Author.Count.{below-more}
 use Rattle.format.specs.Bytes.{byte}
-use Rattle.format.specs.File.{D}
+use Rattle.format.specs.File.{D, layersAt}
 use Rattle.format.specs.Refusals.{layerTest, each}
 use Rattle.format.specs.Checked.{Answers}
 use Rattle.format.specs.Laws.First.{each-none, each-fault}
@@ -42,13 +42,27 @@ add-t11 c = omega arith
 cast-t12 : tie.Need-cast-t12 Inv-loop μ-loop
 cast-t12 c = omega arith
 
+-- the layer byte that was read
+module _ (c : tie.After-u8-at Inv-loop μ-loop) where
+  abbrev at-loop : tie.At-loop Inv-loop μ-loop
+  at-loop = c .before .before
+
+  abbrev start : tie.Start Inv-loop μ-loop
+  start = at-loop .before .before
+
+  abbrev file : List ℕ
+  file = start .args .file .now
+
+  read : c .u8-at .result ≡ byte file (layersAt file + at-loop .loop .i)
+  read = c .u8-at .ensures .value ∙ ap (λ f. byte file (28 + 4 * f + at-loop .loop .i)) (start .pre .facts-are)
+
 returns : tie.Need-returns Inv-loop μ-loop
 returns c =
-    let at-loop = c .before .before .before in
-    let start = at-loop .before .before in
-    subst (λ f. Answers (each (D (start .args .file .now)) (layerTest (start .args .file .now))) (Fault (Layerless (f + at-loop .loop .i)))) (sym (start .pre .facts-are))
-    (each-fault (D (start .args .file .now)) (layerTest (start .args .file .now)) (at-loop .loop .i) (omega arith) (at-loop .loop .inv .1)
-    (layer-fails (start .args .file .now) (at-loop .loop .i) (c .before .u8-at .ensures .value ∙ ap (λ f. byte (start .args .file .now) (28 + 4 * f + at-loop .loop .i)) (start .pre .facts-are)) (c .if1 .taken)))
+    let s = file (c .before) in
+    let loop = at-loop (c .before) .loop in
+    let fails = layer-fails s (loop .i) (read (c .before)) (c .if1 .taken) in
+    subst (λ f. Answers (each (D s) (layerTest s)) (Fault (Layerless (f + loop .i)))) (sym (start (c .before) .pre .facts-are))
+    (each-fault (D s) (layerTest s) (loop .i) (omega arith) (loop .inv .1) fails)
 
 add-i : tie.Need-add-i Inv-loop μ-loop
 add-i c = omega arith
@@ -58,17 +72,14 @@ loop-less c = omega arith
 
 loop-again : tie.Need-loop-again Inv-loop μ-loop
 loop-again c =
-    let at-loop = c .before .before .before in
-    let start = at-loop .before .before in (
-      omega arith,
-      below-more _ _ (at-loop .loop .inv .1) (layer-passes (start .args .file .now) (at-loop .loop .i)
-          (c .before .u8-at .ensures .value ∙ ap (λ f. byte (start .args .file .now) (28 + 4 * f + at-loop .loop .i)) (start .pre .facts-are)) (c .if1 .left)),
-    )
+    let loop = at-loop (c .before) .loop in
+    let passes = layer-passes (file (c .before)) (loop .i) (read (c .before)) (c .if1 .left) in
+    (omega arith, below-more _ _ (loop .inv .1) passes)
 
 returns-2 : tie.Need-returns-2 Inv-loop μ-loop
 returns-2 c =
-    let start = c .before .before .before in
-    each-none (D (start .args .file .now)) (layerTest (start .args .file .now)) (λ k h. c .before .loop .inv .1 k (omega arith))
+    let s = c .before .before .before .args .file .now in
+    each-none (D s) (layerTest s) (λ k h. c .before .loop .inv .1 k (omega arith))
 
 pub layerless-spec : {M : Type 1} → statement M
 layerless-spec =

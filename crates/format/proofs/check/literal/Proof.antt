@@ -1,5 +1,4 @@
 -- `format::check::literal` meets its contract: 10, then 11.
-use Prim.Native.Nat.{ℕ, _≤_, _<_, _-_, _+_, _*_}
 use native.Mathlib.Omega.{arith}
 use borrow.Author.Needs.{needs}
 use Rattle.format.specs.Laws.RulesRead.{literal-unknown, literal-breaks, literal-passes}

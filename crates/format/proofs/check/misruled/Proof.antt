@@ -1,12 +1,14 @@
 -- `format::check::misruled` meets its contract: the rules before j, and the literals of rule j before i, have no fault.
-use mathlib.Core.Path.{_≡_, ap, refl, sym, subst, _∙_}
-use mathlib.Core.Logic.{_⊎_, inl, inr, ⊎-elim}
+use mathlib.Core.Path.{_≡_, refl, sym, subst, _∙_}
+use mathlib.Core.Logic.{inl, inr, ⊎-elim}
+use mathlib.Core.List.{List}
 use Prim.Native.Nat.{ℕ, _≤_, _<_, _-_, _+_, _*_}
 use native.Mathlib.Omega.{arith}
+use lib.ListN.{length}
 use borrow.Author.Needs.{needs}
 use borrow.Author.Count.{below-more}
 use Rattle.format.specs.Bytes.{u16}
-use Rattle.format.specs.File.{literalAt, decode}
+use Rattle.format.specs.File.{R, literalAt, decode}
 use Rattle.format.specs.Refusals.{literalTests, rulesTests}
 use Rattle.format.specs.Checked.{Answers, HeaderRead}
 use Rattle.format.specs.Laws.RulesRead.{
@@ -17,6 +19,7 @@ use Rattle.format.specs.Laws.RulesRead.{
   literal-stops,
   rules-leftover,
   rules-end,
+  bodyBytes,
   body-length,
   body-literal,
   header-is,
@@ -33,7 +36,9 @@ use Rattle.format.proofs.check.misruled.Tie as tie
 
 abbrev Inv-loop : tie.InvT-loop
 Inv-loop file facts derived rules found₀ at j top end start body literals i₀ found i =
-    (found ≡ Nothing) × (i ≤ literals) × ((k : ℕ) → k < i → Answers (literalTests (decode file) j (u16 file at) (literalAt file at k)) Nothing)
+    (found ≡ Nothing) ×
+    (i ≤ literals) ×
+    ((k : ℕ) → k < i → Answers (literalTests (decode file) j (u16 file at) (literalAt file at k)) Nothing)
 
 abbrev μ-loop : tie.MeasureT-loop
 μ-loop file facts derived rules found₀ at j top end start body literals i₀ found i = literals - i
@@ -43,6 +48,13 @@ Inv-rules file facts derived rules found₀ at₀ j₀ found at j = (found ≡ N
 
 abbrev μ-rules : tie.MeasureT-rules
 μ-rules file facts derived rules found₀ at₀ j₀ found at j = rules - j
+
+-- the loop over the rules: it has reached rule `.rules .j`, which starts at `.rules .at`
+abbrev At-rules : Type 0
+At-rules = tie.At-rules Inv-loop μ-loop Inv-rules μ-rules
+
+abbrev file : At-rules → List ℕ
+file c = c .before .before .args .file .now
 
 mul-at : tie.Need-mul-at Inv-loop μ-loop Inv-rules μ-rules
 mul-at c = omega arith
@@ -67,20 +79,29 @@ enum-known-w c = search needs
 enum-known-top : tie.Need-enum-known-top Inv-loop μ-loop Inv-rules μ-rules
 enum-known-top c = search needs
 
--- the rule whose header was read
-rule :
-    (c : tie.After-known-told2 Inv-loop μ-loop Inv-rules μ-rules) →
-    HeaderRead (c .before .before .before .before .before .before .before .args .file .now) (c .before .before .before .before .before .rules .j) (c .before .before .before .before .before .rules .at) (head.Rule (c .before .top .given .0 .0) (c .before .top .given .0 .1 .0))
-rule c =
-    let at-header = c .before .before .before in
-    let at-rules = at-header .before .before in
-    let start = at-rules .before .before in
-    header-is (start .args .file .now) (at-rules .rules .j) (at-rules .rules .at) (at-header .header .ensures) (c .before .top .given .1)
+-- where the header of the rule reached has been read
+module _ (c : tie.After-known-told2 Inv-loop μ-loop Inv-rules μ-rules) where
+  abbrev at-rules : At-rules
+  at-rules = c .before .before .before .before .before
+
+  abbrev top : ℕ
+  top = c .before .top .given .0 .0
+
+  abbrev end : ℕ
+  end = c .before .top .given .0 .1 .0
+
+  -- the rule
+  rule : HeaderRead (file at-rules) (at-rules .rules .j) (at-rules .rules .at) (head.Rule top end)
+  rule =
+      let at-header = c .before .before .before in
+      header-is (file at-rules) (at-rules .rules .j) (at-rules .rules .at) (at-header .header .ensures) (c .before .top .given .1)
+
+  -- its body: two bytes for each literal
+  body : length (bodyBytes (file at-rules) (at-rules .rules .at) (rule .2) (rule .3)) ≡ 2 * u16 (file at-rules) (at-rules .rules .at + 2)
+  body = body-length (file at-rules) (at-rules .rules .at) (rule .2) (rule .3)
 
 add-start : tie.Need-add-start Inv-loop μ-loop Inv-rules μ-rules
-add-start c =
-    let start = c .before .before .before .before .before .before .before in
-    omega (arith, rule c .3, rule c .4, start .pre .size)
+add-start c = omega (arith, rule c .3, rule c .4, at-rules c .before .before .pre .size)
 
 sub-body : tie.Need-sub-body Inv-loop μ-loop Inv-rules μ-rules
 sub-body c = rule c .4
@@ -92,16 +113,12 @@ part-body-end : tie.Need-part-body-end Inv-loop μ-loop Inv-rules μ-rules
 part-body-end c = rule c .3
 
 loop-holds : tie.Need-loop-holds Inv-loop μ-loop Inv-rules μ-rules
-loop-holds c =
-    let at-rules = c .before .before .before .before .before .before in
-    (at-rules .rules .inv .0, omega arith, λ k h. absurd (omega arith))
+loop-holds c = (at-rules (c .before) .rules .inv .0, omega arith, λ k h. absurd (omega arith))
 
 mul-u16-at : tie.Need-mul-u16-at Inv-loop μ-loop Inv-rules μ-rules
 mul-u16-at c =
-    let at-known-told2 = c .before .before .before in
-    let at-rules = at-known-told2 .before .before .before .before .before in
-    let start = at-rules .before .before in
-    omega (arith, body-length (start .args .file .now) (at-rules .rules .at) (rule (at-known-told2) .2) (rule (at-known-told2) .3), rule (at-known-told2) .3, start .pre .size)
+    let read = c .before .before .before in
+    omega (arith, body read, rule read .3, at-rules read .before .before .pre .size)
 
 u16-at-requires : tie.Need-u16-at-requires Inv-loop μ-loop Inv-rules μ-rules
 u16-at-requires c κs = omega (arith, c .loop-test .taken)
@@ -121,10 +138,8 @@ enum-told c = search needs
 add-i : tie.Need-add-i Inv-loop μ-loop Inv-rules μ-rules
 add-i c =
     let at-loop-test = c .before .before .before .before in
-    let at-known-told2 = at-loop-test .before .before .before in
-    let at-rules = at-known-told2 .before .before .before .before .before in
-    let start = at-rules .before .before in
-    omega (arith, at-loop-test .loop-test .taken, body-length (start .args .file .now) (at-rules .rules .at) (rule (at-known-told2) .2) (rule (at-known-told2) .3), rule (at-known-told2) .3, start .pre .size)
+    let read = at-loop-test .before .before .before in
+    omega (arith, at-loop-test .loop-test .taken, body read, rule read .3, at-rules read .before .before .pre .size)
 
 loop-less : tie.Need-loop-less Inv-loop μ-loop Inv-rules μ-rules
 loop-less c =
@@ -137,14 +152,18 @@ loop-again c =
     let at-u16-at = at-literal .before in
     let at-loop-test = at-u16-at .before in
     let at-loop = at-loop-test .before in
-    let at-known-told2 = at-loop .before .before in
-    let at-rules = at-known-told2 .before .before .before .before .before in
-    let start = at-rules .before .before in (
+    let read = at-loop .before .before in
+    let s = file (at-rules read) in
+    let j = at-rules read .rules .j in
+    let at = at-rules read .rules .at in
+    let r = rule read in
+    let i = at-loop .loop .i in
+    let below : i < u16 s (at + 2) = omega (arith, body read, at-loop-test .loop-test .taken) in
+    let literal-i = body-literal s at (r .2) (r .3) i below (at-u16-at .u16-at .ensures .value) in (
       at-loop .loop .inv .0,
       omega (arith, at-loop-test .loop-test .taken),
       below-more _ _ (at-loop .loop .inv .2)
-          (literal-is (start .args .file .now) (at-rules .rules .j) (at-rules .rules .at) (at-literal .literal .ensures) (c .enum-told .given .1) (rule (at-known-told2) .1) (at-loop .loop .i)
-          (body-literal (start .args .file .now) (at-rules .rules .at) (rule (at-known-told2) .2) (rule (at-known-told2) .3) (at-loop .loop .i) (omega (arith, body-length (start .args .file .now) (at-rules .rules .at) (rule (at-known-told2) .2) (rule (at-known-told2) .3), at-loop-test .loop-test .taken)) (at-u16-at .u16-at .ensures .value))),
+          (literal-is s j at (at-literal .literal .ensures) (c .enum-told .given .1) (r .1) i literal-i),
     )
 
 add-j : tie.Need-add-j Inv-loop μ-loop Inv-rules μ-rules
@@ -160,39 +179,44 @@ rules-less c =
 
 rules-again : tie.Need-rules-again Inv-loop μ-loop Inv-rules μ-rules
 rules-again c =
-    let at-known-told2 = c .before .before .before in
-    let at-rules-test = at-known-told2 .before .before .before .before in
-    let at-rules = at-rules-test .before in
-    let start = at-rules .before .before in (
+    let read = c .before .before .before in
+    let at-rules-test = read .before .before .before .before in
+    let reached = at-rules read in
+    let r = rule read in (
       c .before .loop .inv .0,
       omega (arith, at-rules-test .rules-test .taken),
-      reached-next (start .args .file .now) (at-rules .rules .j) (at-rules .rules .at) (at-rules .rules .inv .2) (rule (at-known-told2) .0) (rule (at-known-told2) .2) (rule (at-known-told2) .3)
-          (λ k h. c .before .loop .inv .2 k (omega (arith, c .loop-test .left, body-length (start .args .file .now) (at-rules .rules .at) (rule (at-known-told2) .2) (rule (at-known-told2) .3)))),
+      reached-next (file reached) (reached .rules .j) (reached .rules .at) (reached .rules .inv .2) (r .0) (r .2) (r .3)
+          (λ k h. c .before .loop .inv .2 k (omega (arith, c .loop-test .left, body read))),
     )
 
 -- where the ways out of the loops meet
-met : (c : tie.Left-rules Inv-loop μ-loop Inv-rules μ-rules) → Ended (c .before .before .before .args .file .now) (c .before .rules .j) (c .before .rules .at) (c .rules-test .found)
+met :
+    (c : tie.Left-rules Inv-loop μ-loop Inv-rules μ-rules) →
+    Ended (file (c .before)) (c .before .rules .j) (c .before .rules .at) (c .rules-test .found)
 met c =
-    let start = c .before .before .before in
+    let s = file (c .before) in
+    let j = c .before .rules .j in
+    let at = c .before .rules .at in
+    let here = c .before .rules .inv .2 in
+    let pre = c .before .before .before .pre in
     ⊎-elim
-    (λ v. inl (v .1 ∙ c .before .rules .inv .0, omega (arith, v .0 .left, start .pre .rules-are), c .before .rules .inv .2))
+    -- past the last rule,
+    (λ v. inl (v .1 ∙ c .before .rules .inv .0, omega (arith, v .0 .left, pre .rules-are), here))
+    -- by a fault in a header,
     (λ u. inr (⊎-elim
-    (λ v. (
-      v .3 .given .0 .0,
-      v .5,
-      header-stops (start .args .file .now) (c .before .rules .j) (c .before .rules .at) (c .before .rules .inv .2) (omega (arith, v .0 .taken, start .pre .rules-are))
-          (header-is (start .args .file .now) (c .before .rules .j) (c .before .rules .at) (v .1 .ensures) (v .3 .given .1)),
-    ))
     (λ v.
-    let r = header-is (start .args .file .now) (c .before .rules .j) (c .before .rules .at) (v .1 .ensures) (v .3 .given .1) in
-    let below : v .6 .i < u16 (start .args .file .now) (c .before .rules .at + 2) =
-    omega (arith, body-length (start .args .file .now) (c .before .rules .at) (r .2) (r .3), v .7 .taken) in (
+    let r = header-is s j at (v .1 .ensures) (v .3 .given .1) in
+    (v .3 .given .0 .0, v .5, header-stops s j at here (omega (arith, v .0 .taken, pre .rules-are)) r))
+    -- or by one in a literal
+    (λ v.
+    let r = header-is s j at (v .1 .ensures) (v .3 .given .1) in
+    let i = v .6 .i in
+    let below : i < u16 s (at + 2) = omega (arith, body-length s at (r .2) (r .3), v .7 .taken) in
+    let literal-i = body-literal s at (r .2) (r .3) i below (v .8 .ensures .value) in (
       v .11 .given .0 .0,
       v .13,
-      literal-stops (start .args .file .now) (c .before .rules .j) (c .before .rules .at) (c .before .rules .inv .2) (omega (arith, v .0 .taken, start .pre .rules-are)) (r .0)
-          (v .6 .i) below (v .6 .inv .2)
-          (literal-is (start .args .file .now) (c .before .rules .j) (c .before .rules .at) (v .9 .ensures) (v .11 .given .1) (r .1) (v .6 .i)
-          (body-literal (start .args .file .now) (c .before .rules .at) (r .2) (r .3) (v .6 .i) below (v .8 .ensures .value))),
+      literal-stops s j at here (omega (arith, v .0 .taken, pre .rules-are)) (r .0) i below (v .6 .inv .2)
+          (literal-is s j at (v .9 .ensures) (v .11 .given .1) (r .1) i literal-i),
     ))
     u))
     (c .rules-test .came)
@@ -203,9 +227,18 @@ enum-known-found c = search needs
 returns : tie.Need-returns Inv-loop μ-loop Inv-rules μ-rules
 returns c =
     let at-rules-test = c .before .before .before in
-    let at-rules = at-rules-test .before in
-    let start = at-rules .before .before in
-    ended-fault (start .args .file .now) (at-rules .rules .j) (at-rules .rules .at) (met (at-rules-test)) (c .before .found .given .1)
+    let reached = at-rules-test .before in
+    ended-fault (file reached) (reached .rules .j) (reached .rules .at) (met at-rules-test) (c .before .found .given .1)
+
+-- where no fault was found, all the rules are passed
+module _ (c : tie.After-enum-told2 Inv-loop μ-loop Inv-rules μ-rules) where
+  abbrev ended : At-rules
+  ended = c .before .before .before
+
+  all-passed : Reached (file ended) (R (file ended)) (ended .rules .at)
+  all-passed =
+      ended-reached (file ended) (ended .rules .j) (ended .rules .at) (met (c .before .before)) (c .enum-told2 .given .1)
+      (omega (arith, ended .rules .inv .1, ended .before .before .pre .rules-are))
 
 enum-told-2 : tie.Need-enum-told-2 Inv-loop μ-loop Inv-rules μ-rules
 enum-told-2 c = search needs
@@ -215,20 +248,14 @@ cast-t29 c = omega arith
 
 returns-2 : tie.Need-returns-2 Inv-loop μ-loop Inv-rules μ-rules
 returns-2 c =
-    let at-rules-test = c .before .before .before in
-    let at-rules = at-rules-test .before in
-    let start = at-rules .before .before in
-    subst (λ n. Answers (rulesTests (start .args .file .now)) (Fault (Broken n))) (sym (start .pre .rules-are))
-    (rules-leftover (start .args .file .now) (at-rules .rules .at)
-    (ended-reached (start .args .file .now) (at-rules .rules .j) (at-rules .rules .at) (met (at-rules-test)) (c .before .enum-told2 .given .1) (omega (arith, at-rules .rules .inv .1, start .pre .rules-are))) (c .if1 .taken))
+    let last = ended (c .before) in
+    subst (λ n. Answers (rulesTests (file last)) (Fault (Broken n))) (sym (last .before .before .pre .rules-are))
+    (rules-leftover (file last) (last .rules .at) (all-passed (c .before)) (c .if1 .taken))
 
 returns-3 : tie.Need-returns-3 Inv-loop μ-loop Inv-rules μ-rules
 returns-3 c =
-    let at-rules-test = c .before .before .before in
-    let at-rules = at-rules-test .before in
-    let start = at-rules .before .before in
-    rules-end (start .args .file .now) (at-rules .rules .at)
-    (ended-reached (start .args .file .now) (at-rules .rules .j) (at-rules .rules .at) (met (at-rules-test)) (c .before .enum-told2 .given .1) (omega (arith, at-rules .rules .inv .1, start .pre .rules-are))) (c .if1 .left)
+    let last = ended (c .before) in
+    rules-end (file last) (last .rules .at) (all-passed (c .before)) (c .if1 .left)
 
 pub misruled-spec : {M : Type 1} → statement M
 misruled-spec =

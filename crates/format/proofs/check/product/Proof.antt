@@ -1,7 +1,10 @@
 -- `format::check::product` meets its contract: the product so far times the total of the facts to come is the total.
+use mathlib.Core.Path.{_≡_}
+use mathlib.Core.List.{List}
 use Prim.Native.Nat.{ℕ, _≤_, _<_, _-_, _+_, _*_}
 use native.Mathlib.Omega.{arith}
-use borrow.Author.Needs.{needs}
+use Rattle.format.specs.Bytes.{u16}
+use Rattle.format.specs.File.{F, factAt}
 use Rattle.format.specs.Refusals.{largest}
 use Rattle.format.specs.Laws.FactsRead.{
   Product,
@@ -42,37 +45,53 @@ add-u16-at-2 c = omega arith
 u16-at-requires-2 : tie.Need-u16-at-requires-2 Inv-loop μ-loop
 u16-at-requires-2 c κs = omega arith
 
+-- where both weights of fact i have been read
+module _ (c : tie.After-u16-at2 Inv-loop μ-loop) where
+  abbrev at-loop : tie.At-loop Inv-loop μ-loop
+  at-loop = c .before .before .before
+
+  abbrev start : tie.Start Inv-loop μ-loop
+  start = at-loop .before .before
+
+  abbrev file : List ℕ
+  file = start .args .file .now
+
+  below : at-loop .loop .i < F file
+  below = omega (arith, start .pre .framed .facts-are, c .before .before .loop-test .taken)
+
+  weights : (k : ℕ) → k < F file → 0 < factAt file k .on + factAt file k .off
+  weights k h = start .pre .weights k (omega (arith, start .pre .framed .facts-are))
+
+  on : c .before .u16-at .result ≡ u16 file (28 + 4 * at-loop .loop .i)
+  on = c .before .u16-at .ensures .value
+
+  off : c .u16-at2 .result ≡ u16 file (30 + 4 * at-loop .loop .i)
+  off = c .u16-at2 .ensures .value
+
+  abbrev both : ℕ
+  both = c .before .u16-at .result + c .u16-at2 .result
+
+  positive : 0 < both
+  positive = both-positive file (at-loop .loop .i) below on off weights
+
 add-both : tie.Need-add-both Inv-loop μ-loop
 add-both c = omega arith
 
 div-if1 : tie.Need-div-if1 Inv-loop μ-loop
-div-if1 c =
-    let at-loop-test = c .before .before in
-    let at-loop = at-loop-test .before in
-    let start = at-loop .before .before in
-    both-positive (start .args .file .now) (at-loop .loop .i) (omega (arith, start .pre .framed .facts-are, at-loop-test .loop-test .taken)) (c .before .u16-at .ensures .value) (c .u16-at2 .ensures .value)
-    (λ k h. start .pre .weights k (omega (arith, start .pre .framed .facts-are)))
+div-if1 c = positive c
 
 returns : tie.Need-returns Inv-loop μ-loop
 returns c =
-    let at-u16-at = c .before .before in
-    let at-loop-test = at-u16-at .before in
-    let at-loop = at-loop-test .before in
-    let start = at-loop .before .before in
-    product-over (start .args .file .now) (at-loop .loop .i) (omega (arith, start .pre .framed .facts-are, at-loop-test .loop-test .taken)) (at-u16-at .u16-at .ensures .value) (c .before .u16-at2 .ensures .value)
-    (λ k h. start .pre .weights k (omega (arith, start .pre .framed .facts-are))) (at-loop .loop .total) (at-loop .loop .inv .2) (c .if1 .taken)
+    let read = c .before in
+    let loop = at-loop read .loop in
+    product-over (file read) (loop .i) (below read) (on read) (off read) (weights read) (loop .total) (loop .inv .2) (c .if1 .taken)
+
+-- the product with fact i fits
+fits : (c : tie.Else1 Inv-loop μ-loop) → at-loop (c .before) .loop .total * both (c .before) ≤ largest
+fits c = product-fits (at-loop (c .before) .loop .total) (both (c .before)) (positive (c .before)) (c .if1 .left)
 
 mul-total : tie.Need-mul-total Inv-loop μ-loop
-mul-total c =
-    let at-u16-at = c .before .before in
-    let at-loop-test = at-u16-at .before in
-    let at-loop = at-loop-test .before in
-    let start = at-loop .before .before in
-    omega (
-      arith,
-      product-fits (at-loop .loop .total) (at-u16-at .u16-at .result + c .before .u16-at2 .result) (both-positive (start .args .file .now) (at-loop .loop .i) (omega (arith, start .pre .framed .facts-are, at-loop-test .loop-test .taken)) (at-u16-at .u16-at .ensures .value) (c .before .u16-at2 .ensures .value)
-          (λ k h. start .pre .weights k (omega (arith, start .pre .framed .facts-are)))) (c .if1 .left),
-    )
+mul-total c = omega (arith, fits c)
 
 add-i : tie.Need-add-i Inv-loop μ-loop
 add-i c = omega arith
@@ -82,21 +101,16 @@ loop-less c = omega arith
 
 loop-again : tie.Need-loop-again Inv-loop μ-loop
 loop-again c =
-    let at-u16-at = c .before .before in
-    let at-loop-test = at-u16-at .before in
-    let at-loop = at-loop-test .before in
-    let start = at-loop .before .before in (
-      omega arith,
-      product-fits (at-loop .loop .total) (at-u16-at .u16-at .result + c .before .u16-at2 .result) (both-positive (start .args .file .now) (at-loop .loop .i) (omega (arith, start .pre .framed .facts-are, at-loop-test .loop-test .taken)) (at-u16-at .u16-at .ensures .value) (c .before .u16-at2 .ensures .value)
-          (λ k h. start .pre .weights k (omega (arith, start .pre .framed .facts-are)))) (c .if1 .left),
-      product-step (start .args .file .now) (at-loop .loop .i) (omega (arith, start .pre .framed .facts-are, at-loop-test .loop-test .taken)) (at-u16-at .u16-at .ensures .value) (c .before .u16-at2 .ensures .value)
-          (at-loop .loop .total) (at-loop .loop .inv .2),
-    )
+    let read = c .before in
+    let loop = at-loop read .loop in
+    (omega arith, fits c, product-step (file read) (loop .i) (below read) (on read) (off read) (loop .total) (loop .inv .2))
 
 returns-2 : tie.Need-returns-2 Inv-loop μ-loop
 returns-2 c =
     let start = c .before .before .before in
-    (product-end (start .args .file .now) (c .before .loop .i) (c .before .loop .total) (omega (arith, start .pre .framed .facts-are)) (c .before .loop .inv .2), c .before .loop .inv .1)
+    let loop = c .before .loop in
+    let past : F (start .args .file .now) ≤ loop .i = omega (arith, start .pre .framed .facts-are) in
+    (product-end (start .args .file .now) (loop .i) (loop .total) past (loop .inv .2), loop .inv .1)
 
 pub product-spec : {M : Type 1} → statement M
 product-spec =

@@ -1,9 +1,7 @@
 -- `format::check::weightless` meets its contract: no fact before i is weightless.
-use mathlib.Core.Path.{sym, subst}
-use Prim.Native.Nat.{ℕ, _≤_, _<_, _-_, _+_, _*_}
+use Prim.Native.Nat.{ℕ, _≤_, _<_, _-_}
 use native.Mathlib.Omega.{arith}
-use borrow.Author.Needs.{needs}
-use borrow.Author.Count.{below-none, below-more}
+use borrow.Author.Count.{below-more}
 use Rattle.format.specs.File.{F}
 use Rattle.format.specs.Refusals.{factTest}
 use Rattle.format.specs.Checked.{Answers}
@@ -37,9 +35,10 @@ cast-t10 c = omega arith
 returns : tie.Need-returns Inv-loop μ-loop
 returns c =
     let at-loop = c .before .before .before in
-    let start = at-loop .before .before in
-    each-fault (F (start .args .file .now)) (factTest (start .args .file .now)) (at-loop .loop .i) (omega arith) (at-loop .loop .inv .1)
-    (fact-fails (start .args .file .now) (at-loop .loop .i) (c .before .u32-at .ensures .value) (c .if1 .taken))
+    let s = at-loop .before .before .args .file .now in
+    let i = at-loop .loop .i in
+    each-fault (F s) (factTest s) i (omega arith) (at-loop .loop .inv .1)
+    (fact-fails s i (c .before .u32-at .ensures .value) (c .if1 .taken))
 
 add-i : tie.Need-add-i Inv-loop μ-loop
 add-i c = omega arith
@@ -50,13 +49,14 @@ loop-less c = omega arith
 loop-again : tie.Need-loop-again Inv-loop μ-loop
 loop-again c =
     let at-loop = c .before .before .before in
-    let start = at-loop .before .before in
-    (omega arith, below-more _ _ (at-loop .loop .inv .1) (fact-passes (start .args .file .now) (at-loop .loop .i) (c .before .u32-at .ensures .value) (c .if1 .left)))
+    let s = at-loop .before .before .args .file .now in
+    let passes = fact-passes s (at-loop .loop .i) (c .before .u32-at .ensures .value) (c .if1 .left) in
+    (omega arith, below-more _ _ (at-loop .loop .inv .1) passes)
 
 returns-2 : tie.Need-returns-2 Inv-loop μ-loop
 returns-2 c =
-    let start = c .before .before .before in
-    each-none (F (start .args .file .now)) (factTest (start .args .file .now)) (λ k h. c .before .loop .inv .1 k (omega arith))
+    let s = c .before .before .before .args .file .now in
+    each-none (F s) (factTest s) (λ k h. c .before .loop .inv .1 k (omega arith))
 
 pub weightless-spec : {M : Type 1} → statement M
 weightless-spec =
