@@ -3,8 +3,8 @@
 // specs/File.antt says what the bytes mean, specs/Refusals.antt which refusal a file gets, and specs/Walk.antt what the
 // walk finds. No public function asks anything of its caller.
 mod bytes;
-pub mod check;
 pub mod numbers;
+pub mod validate;
 pub mod walk;
 
 // Why a file is refused. specs/Refusals.antt gives document 01's number and detail for each.

@@ -18,7 +18,7 @@ pub struct Counts {
 pub extern "C" fn reach_read(file: &[u8]) -> Counts
     ensures { λ r. ⌜ r ≡ read (now (file .entry)) ⌝ }
 {
-    match format::check::check(file) {
+    match format::validate::check(file) {
         Verdict::Accepted {
             facts,
             derived,

@@ -2,7 +2,7 @@
 use mathlib.Core.Bool.{true, false}
 use mathlib.Core.List.{List, [], _∷_}
 use Prim.Native.Nat.{ℕ}
-use Rattle.meaning.specs.Meaning.{Fact, Literal, Rule, Program}
+use Rattle.meaning.specs.Meaning.{Fact, Literal, Rule}
 use Rattle.format.specs.Encode.{encode}
 
 abbrev pub plain : ℕ → Literal

@@ -1,14 +1,13 @@
 -- What an accepted file grants: what every test of the check asks for, and so that the program it holds is legal.
 -- An accepted file has no fault, so each of its tests fails to fail; read as orders of numbers, these are the fields of `Passed`.
 use mathlib.Core.Path.{_≡_, refl, sym, _∙_}
-use mathlib.Core.Bool.{Bool, true, false, not, _&&_}
-use mathlib.Core.List.{List, [], _∷_, List·Memᴰ, List·Memᴰ·head, List·Memᴰ·tail}
+use mathlib.Core.Bool.{Bool, true, false, not}
+use mathlib.Core.List.{List, [], _∷_, List·Memᴰ}
 use Prim.Native.Nat.{ℕ, zero, suc, _+_, _≤_, _<_}
 use native.Mathlib.Omega.{arith}
 use lib.Dec.{eqb, ltb}
 use lib.ListN.{length, getD, List·getD-eq-default}
 use borrow.Author.Tests.{ltb-true, ltb-false, leb-false, eqb-true, eqb-false, not-false}
-use Rattle.meaning.specs.Lists.{upto}
 use Rattle.meaning.specs.Laws.Tests.{length-upto, getD-upto, mem-of-upto}
 use Rattle.meaning.specs.Meaning.{Fact, Literal, Rule, Program, Layered, Known, layerOf, total}
 use Rattle.format.specs.Bytes.{Bytes, byte, u16, u32}
@@ -38,7 +37,7 @@ use Rattle.format.specs.Laws.FactsRead.{some-weight}
 use Rattle.format.specs.Laws.First.{accepted, head-passes, append-passes, each-passes}
 use Rattle.format.specs.declared.Verdict.{Verdict}
 use Rattle.format.specs.declared.Verdict.the-variants.{Accepted}
-use Rattle.format.specs.declared.check.Found.the-variants.{Nothing}
+use Rattle.format.specs.declared.validate.Found.the-variants.{Nothing}
 
 -- ---- what the tests grant
 

@@ -10,8 +10,8 @@ use Rattle.format.specs.Refusals.{Test}
 use Rattle.format.specs.Checked.{Answers}
 use Rattle.format.specs.Laws.First.{pass, fail}
 use Rattle.format.specs.declared.Refusal.{Refusal}
-use Rattle.format.specs.declared.check.Found.{Found}
-use Rattle.format.specs.declared.check.Found.the-variants.{Fault}
+use Rattle.format.specs.declared.validate.Found.{Found}
+use Rattle.format.specs.declared.validate.Found.the-variants.{Fault}
 
 module _ {v x : ℕ} (read : x ≡ v) {w : Refusal} where
   -- v is n, or differs

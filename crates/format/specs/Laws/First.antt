@@ -7,12 +7,12 @@ use Prim.Native.Nat.{ℕ, zero, suc, _<_}
 use native.Mathlib.Omega.{arith}
 use Rattle.meaning.specs.Lists.{upto}
 use Rattle.format.specs.Refusals.{Test, first, each}
-use Rattle.format.specs.Checked.{Answers, orElse}
+use Rattle.format.specs.Checked.{Answers}
 use Rattle.format.specs.declared.Refusal.{Refusal}
 use Rattle.format.specs.declared.Verdict.{Verdict}
 use Rattle.format.specs.declared.Verdict.the-variants.{Accepted, Refused}
-use Rattle.format.specs.declared.check.Found.{Found}
-use Rattle.format.specs.declared.check.Found.the-variants.{Fault, Nothing}
+use Rattle.format.specs.declared.validate.Found.{Found}
+use Rattle.format.specs.declared.validate.Found.the-variants.{Fault, Nothing}
 
 -- ---- putting together
 

@@ -19,7 +19,7 @@ use Rattle.format.specs.Laws.First.{none, pass, go-on, each-none}
 use Rattle.format.specs.Laws.Accepted.{RightContents, Passed, PassedRule}
 use Rattle.format.specs.Laws.Decoded.{decode-facts, decode-layers, decode-rules}
 use Rattle.format.specs.declared.Verdict.the-variants.{Accepted}
-use Rattle.format.specs.declared.check.Found.the-variants.{Nothing}
+use Rattle.format.specs.declared.validate.Found.the-variants.{Nothing}
 
 -- ---- a file that has passed every test is accepted
 

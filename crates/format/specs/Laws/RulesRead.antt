@@ -3,27 +3,27 @@
 use mathlib.Core.Path.{_≡_, refl, sym, ap, ap₂, subst, _∙_}
 use mathlib.Core.Bool.{Bool, true, false, cond}
 use mathlib.Core.Logic.{_⊎_, inl, inr}
-use mathlib.Core.List.{List, [], _∷_, _++_}
-use Prim.Native.Nat.{ℕ, zero, suc, _+_, _*_, _-_, _/_, _%_, _≤_, _<_}
+use mathlib.Core.List.{List, _++_}
+use Prim.Native.Nat.{ℕ, suc, _+_, _*_, _-_, _/_, _%_, _≤_, _<_}
 use native.Mathlib.Omega.{arith}
 use native.Mathlib.Decide.{decLt}
 use native.Mathlib.Numerals.{add-one}
 use lib.Dec.{eqb, ltb, leb, leb·suc-suc}
-use lib.ListN.{length, getD, take, drop, length-take, length-drop}
+use lib.ListN.{length, take, drop, length-take, length-drop}
 use lib.Seq.{getD-take, getD-drop}
 use borrow.Author.Tests.{eq-eqb, ne-eqb, lt-ltb, le-ltb, le-leb, lt-leb, eqb-true, eqb-false}
 use Rattle.meaning.specs.Meaning.{layerOf, atoms}
 use Rattle.format.specs.Bytes.{byte, u16}
-use Rattle.format.specs.File.{F, D, R, factAt, layersAt, rulesAt, after, startOf, literal, literalAt, decode}
+use Rattle.format.specs.File.{F, D, R, layersAt, rulesAt, after, startOf, literal, literalAt, decode}
 use Rattle.format.specs.Refusals.{layerTest, breaks, literalTests, headTests, ruleTests, rulesTests, each}
 use Rattle.format.specs.Checked.{Answers, HeaderRead, LiteralRead}
 use Rattle.format.specs.Laws.Decoded.{decode-atoms}
 use Rattle.format.specs.Laws.First.{none, pass, fail, stop, go-on, each-none, each-fault}
 use Rattle.format.specs.declared.Refusal.{Refusal}
 use Rattle.format.specs.declared.Refusal.the-variants.{Layerless, Broken, Unknown, Layers}
-use Rattle.format.specs.declared.check.Found.{Found}
-use Rattle.format.specs.declared.check.Head.{Head}
-use Rattle.format.specs.declared.check.Found.the-variants.{Fault, Nothing}
+use Rattle.format.specs.declared.validate.Found.{Found}
+use Rattle.format.specs.declared.validate.Head.{Head}
+use Rattle.format.specs.declared.validate.Found.the-variants.{Fault, Nothing}
 
 -- ---- 7
 

@@ -1,9 +1,8 @@
 -- The whole check: at each point of the code, the tests that are left answer what all the tests answer.
-use mathlib.Core.Path.{_≡_, refl, sym, ap, subst, _∙_}
+use mathlib.Core.Path.{_≡_, refl, sym, subst, _∙_}
 use mathlib.Core.List.{List, _++_}
-use Prim.Native.Nat.{ℕ, _+_, _*_, _≤_, _<_}
+use Prim.Native.Nat.{ℕ, _≤_, _<_}
 use native.Mathlib.Omega.{arith}
-use lib.Dec.{ltb}
 use lib.ListN.{length}
 use borrow.Author.Tests.{lt-ltb, le-ltb, ltb-false}
 use Rattle.meaning.specs.Meaning.{total}
@@ -24,16 +23,15 @@ use Rattle.format.specs.Refusals.{
   fileTests,
   verdict,
 }
-use Rattle.format.specs.Checked.{Answers, Framed, Weighted, Totalled}
+use Rattle.format.specs.Checked.{Answers, Framed, Totalled}
 use Rattle.format.specs.Laws.First.{none, pass, fail, first-append, head-passes}
-use Rattle.format.specs.Laws.FactsRead.{weighted}
 use Rattle.format.specs.declared.Refusal.{Refusal}
 use Rattle.format.specs.declared.Refusal.the-variants.{Length, Total}
 use Rattle.format.specs.declared.Verdict.the-variants.{Accepted, Refused}
-use Rattle.format.specs.declared.check.Found.{Found}
-use Rattle.format.specs.declared.check.Found.the-variants.{Fault, Nothing}
-use Rattle.format.specs.declared.check.Sum.{Sum}
-use Rattle.format.specs.declared.check.Sum.the-variants as sum
+use Rattle.format.specs.declared.validate.Found.{Found}
+use Rattle.format.specs.declared.validate.Found.the-variants.{Fault, Nothing}
+use Rattle.format.specs.declared.validate.Sum.{Sum}
+use Rattle.format.specs.declared.validate.Sum.the-variants as sum
 
 -- ---- what is left after 1, 2, .. , 7
 
@@ -124,11 +122,9 @@ module _ (s : List ℕ) {r : Sum} (t : Totalled s r) where
 
 -- ---- what the parts after 4 may take for granted
 
-pub framed :
-    (s : List ℕ) → length s ≤ 65536 → Answers (countsTests s) Nothing → Answers (offsetTests s) Nothing →
-    {facts derived rules : ℕ} → facts ≡ F s → derived ≡ D s → rules ≡ R s → Framed s facts derived rules
+pub framed : (s : List ℕ) → length s ≤ 65536 → Answers (countsTests s) Nothing → Answers (offsetTests s) Nothing → Framed s
 unfolding countsTests offsetTests
-framed s h a b f d r =
+framed s h a b =
     let (p, a₂) = head-passes _ _ a in
     let (q, a₃) = head-passes _ _ a₂ in
     let (o, a₄) = head-passes _ _ a₃ in
@@ -139,15 +135,7 @@ framed s h a b f d r =
     record {
       size = h;
       fits = ltb-false (length s) (rulesAt s) room;
-      facts-are = f;
-      derived-are = d;
-      rules-are = r;
-      few-facts = omega (arith, ltb-false 32 (F s) p);
-      few-derived = omega (arith, ltb-false 512 (D s) q);
-      few-rules = omega (arith, ltb-false 2048 (R s) o);
+      few-facts = ltb-false 32 (F s) p;
+      few-derived = ltb-false 512 (D s) q;
+      few-rules = ltb-false 2048 (R s) o;
     }
-
-pub weighed :
-    (s : List ℕ) {facts derived rules : ℕ} → Framed s facts derived rules → Answers (each (F s) (factTest s)) Nothing →
-    Weighted s facts derived rules
-weighed s f a = record { framed = f; weights = λ i h. weighted s a i (omega (arith, f .facts-are)) }

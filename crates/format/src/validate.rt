@@ -7,9 +7,9 @@ use crate::bytes::u32_at;
 ghost use mathlib.Core.Path.{_≡_};
 ghost use Prim.Native.Nat.{_+_, _*_, _<_, _≤_};
 ghost use lib.ListN.{length};
-ghost use Rattle.format.specs.File.{F, D};
+ghost use Rattle.format.specs.File.{F, D, R};
 ghost use Rattle.format.specs.Refusals.{verdict, contentsTests, countsTests, offsetTests, factTest, layerTest, rulesTests, each};
-ghost use Rattle.format.specs.Checked.{Answers, Framed, Weighted, Totalled, LayerOf, HeaderAsked, HeaderRead, LiteralAsked, LiteralRead};
+ghost use Rattle.format.specs.Checked.{Answers, Framed, Weighted, Counted, Totalled, LayerOf, HeaderAsked, HeaderRead, LiteralAsked, LiteralRead};
 
 // What some of the tests find.
 enum Found {
@@ -51,13 +51,13 @@ pub fn check(file: &[u8]) -> Verdict
     let facts = u16_at(file, 6);
     let derived = u16_at(file, 14);
     let rules = u16_at(file, 22);
-    if let Found::Fault(w) = weightless(file, facts, derived, rules) {
+    if let Found::Fault(w) = weightless(file, facts) {
         return Verdict::Refused(w);
     }
-    let Sum::Total(total) = product(file, facts, derived, rules) else {
+    let Sum::Total(total) = product(file, facts) else {
         return Verdict::Refused(Refusal::Total);
     };
-    if let Found::Fault(w) = layerless(file, facts, derived, rules) {
+    if let Found::Fault(w) = layerless(file, facts, derived) {
         return Verdict::Refused(w);
     }
     if let Found::Fault(w) = misruled(file, facts, derived, rules) {
@@ -134,8 +134,9 @@ fn offsets(file: &[u8]) -> Found
 }
 
 // 5: the first fact with on = off = 0.
-fn weightless(file: &[u8], facts: usize, derived: usize, rules: usize) -> Found
-    requires { ⌜ Framed (now file) facts derived rules ⌝ }
+fn weightless(file: &[u8], facts: usize) -> Found
+    requires { ⌜ Framed (now file) ⌝ }
+    requires { ⌜ facts ≡ F (now file) ⌝ }
     ensures { λ r. ⌜ Answers (each (F (now (file .entry))) (factTest (now (file .entry)))) r ⌝ }
 {
     let mut i = 0;
@@ -149,8 +150,9 @@ fn weightless(file: &[u8], facts: usize, derived: usize, rules: usize) -> Found
 }
 
 // 6: the total. No fact has on + off = 0, so a product that passes the largest at any point passes it at the end.
-fn product(file: &[u8], facts: usize, derived: usize, rules: usize) -> Sum
-    requires { ⌜ Weighted (now file) facts derived rules ⌝ }
+fn product(file: &[u8], facts: usize) -> Sum
+    requires { ⌜ Weighted (now file) ⌝ }
+    requires { ⌜ facts ≡ F (now file) ⌝ }
     ensures { λ r. ⌜ Totalled (now (file .entry)) r ⌝ }
 {
     let mut total: u64 = 1;
@@ -167,8 +169,9 @@ fn product(file: &[u8], facts: usize, derived: usize, rules: usize) -> Sum
 }
 
 // 7: the first derived atom with layer byte 0.
-fn layerless(file: &[u8], facts: usize, derived: usize, rules: usize) -> Found
-    requires { ⌜ Framed (now file) facts derived rules ⌝ }
+fn layerless(file: &[u8], facts: usize, derived: usize) -> Found
+    requires { ⌜ Framed (now file) ⌝ }
+    requires { ⌜ Counted (now file) facts derived ⌝ }
     ensures { λ r. ⌜ Answers (each (D (now (file .entry))) (layerTest (now (file .entry)))) r ⌝ }
 {
     let layers = 28 + 4 * facts;
@@ -183,9 +186,10 @@ fn layerless(file: &[u8], facts: usize, derived: usize, rules: usize) -> Found
 }
 
 // The layer of an atom. A fact reads a byte too, times 0: a branch here would be mispredicted on every other literal.
-fn layer(file: &[u8], facts: usize, derived: usize, rules: usize, atom: usize) -> usize
-    requires { ⌜ Framed (now file) facts derived rules ⌝ }
-    requires { ⌜ atom < facts + derived ⌝ }
+fn layer(file: &[u8], facts: usize, atom: usize) -> usize
+    requires { ⌜ Framed (now file) ⌝ }
+    requires { ⌜ facts ≡ F (now file) ⌝ }
+    requires { ⌜ atom < F (now file) + D (now file) ⌝ }
     ensures { λ r. ⌜ LayerOf (now (file .entry)) atom r ⌝ }
 {
     let is_derived = (facts <= atom) as usize;
@@ -193,8 +197,8 @@ fn layer(file: &[u8], facts: usize, derived: usize, rules: usize, atom: usize) -
 }
 
 // 8 to 10 of a rule up to its head: "header (8), length (9), body present (8), head (10)".
-fn header(file: &[u8], facts: usize, derived: usize, rules: usize, rule: usize, at: usize) -> Head
-    requires { ⌜ HeaderAsked (now file) facts derived rules rule at ⌝ }
+fn header(file: &[u8], facts: usize, derived: usize, rule: usize, at: usize) -> Head
+    requires { ⌜ HeaderAsked (now file) facts derived rule at ⌝ }
     ensures { λ r. ⌜ HeaderRead (now (file .entry)) rule at r ⌝ }
 {
     if file.len() - at < 4 {
@@ -215,28 +219,20 @@ fn header(file: &[u8], facts: usize, derived: usize, rules: usize, rule: usize, 
     if facts + derived <= head {
         return Head::Bad(Refusal::Unknown(rule as u32));
     }
-    let top = layer(file, facts, derived, rules, head);
+    let top = layer(file, facts, head);
     Head::Rule { top, end }
 }
 
 // 10 and 11 of a literal of a rule whose head is of layer `top`.
-fn literal(
-    file: &[u8],
-    facts: usize,
-    derived: usize,
-    rules: usize,
-    rule: usize,
-    top: usize,
-    lit: usize,
-) -> Found
-    requires { ⌜ LiteralAsked (now file) facts derived rules rule ⌝ }
+fn literal(file: &[u8], facts: usize, derived: usize, rule: usize, top: usize, lit: usize) -> Found
+    requires { ⌜ LiteralAsked (now file) facts derived rule ⌝ }
     ensures { λ r. ⌜ LiteralRead (now (file .entry)) rule top lit r ⌝ }
 {
     let atom = lit / 2;
     if facts + derived <= atom {
         return Found::Fault(Refusal::Unknown(rule as u32));
     }
-    if top < layer(file, facts, derived, rules, atom) + lit % 2 {
+    if top < layer(file, facts, atom) + lit % 2 {
         return Found::Fault(Refusal::Layers(rule as u32));
     }
     Found::Nothing
@@ -244,14 +240,16 @@ fn literal(
 
 // 8 to 11: the rules in file order, each body's literals in order, and no byte after the last.
 fn misruled(file: &[u8], facts: usize, derived: usize, rules: usize) -> Found
-    requires { ⌜ Framed (now file) facts derived rules ⌝ }
+    requires { ⌜ Framed (now file) ⌝ }
+    requires { ⌜ Counted (now file) facts derived ⌝ }
+    requires { ⌜ rules ≡ R (now file) ⌝ }
     ensures { λ r. ⌜ Answers (rulesTests (now (file .entry))) r ⌝ }
 {
     let mut found = Found::Nothing;
     let mut at = 28 + 4 * facts + derived;
     let mut j = 0;
     'rules: while j < rules {
-        match header(file, facts, derived, rules, j, at) {
+        match header(file, facts, derived, j, at) {
             Head::Bad(w) => {
                 found = Found::Fault(w);
                 break 'rules;
@@ -263,7 +261,7 @@ fn misruled(file: &[u8], facts: usize, derived: usize, rules: usize) -> Found
                 let mut i = 0;
                 while i < literals {
                     let lit = u16_at(body, 2 * i);
-                    if let Found::Fault(w) = literal(file, facts, derived, rules, j, top, lit) {
+                    if let Found::Fault(w) = literal(file, facts, derived, j, top, lit) {
                         found = Found::Fault(w);
                         break 'rules;
                     }

@@ -1,10 +1,10 @@
--- `format::check::product` meets its contract: the product so far times the total of the facts to come is the total.
+-- `format::validate::product` meets its contract: the product so far times the total of the facts to come is the total.
 use mathlib.Core.Path.{_≡_}
 use mathlib.Core.List.{List}
 use Prim.Native.Nat.{ℕ, _≤_, _<_, _-_, _+_, _*_}
 use native.Mathlib.Omega.{arith}
 use Rattle.format.specs.Bytes.{u16}
-use Rattle.format.specs.File.{F, factAt}
+use Rattle.format.specs.File.{F}
 use Rattle.format.specs.Refusals.{largest}
 use Rattle.format.specs.Laws.FactsRead.{
   Product,
@@ -15,14 +15,14 @@ use Rattle.format.specs.Laws.FactsRead.{
   product-fits,
   both-positive,
 }
-use Rattle.format.proofs.check.product.Statement.{statement}
-use Rattle.format.proofs.check.product.Tie as tie
+use Rattle.format.proofs.validate.product.Statement.{statement}
+use Rattle.format.proofs.validate.product.Tie as tie
 
 abbrev Inv-loop : tie.InvT-loop
-Inv-loop file facts derived rules total₀ i₀ total i = (i ≤ facts) × (total ≤ largest) × Product file i total
+Inv-loop file facts total₀ i₀ total i = (i ≤ facts) × (total ≤ largest) × Product file i total
 
 abbrev μ-loop : tie.MeasureT-loop
-μ-loop file facts derived rules total₀ i₀ total i = facts - i
+μ-loop file facts total₀ i₀ total i = facts - i
 
 loop-holds : tie.Need-loop-holds Inv-loop μ-loop
 loop-holds c = (omega arith, omega arith, product-start (c .before .args .file .now))
@@ -57,10 +57,7 @@ module _ (c : tie.After-u16-at2 Inv-loop μ-loop) where
   file = start .args .file .now
 
   below : at-loop .loop .i < F file
-  below = omega (arith, start .pre .framed .facts-are, c .before .before .loop-test .taken)
-
-  weights : (k : ℕ) → k < F file → 0 < factAt file k .on + factAt file k .off
-  weights k h = start .pre .weights k (omega (arith, start .pre .framed .facts-are))
+  below = omega arith
 
   on : c .before .u16-at .result ≡ u16 file (28 + 4 * at-loop .loop .i)
   on = c .before .u16-at .ensures .value
@@ -72,7 +69,7 @@ module _ (c : tie.After-u16-at2 Inv-loop μ-loop) where
   both = c .before .u16-at .result + c .u16-at2 .result
 
   positive : 0 < both
-  positive = both-positive file (at-loop .loop .i) below on off weights
+  positive = both-positive file (at-loop .loop .i) below on off (start .pre .0 .weights)
 
 add-both : tie.Need-add-both Inv-loop μ-loop
 add-both c = omega arith
@@ -84,7 +81,8 @@ returns : tie.Need-returns Inv-loop μ-loop
 returns c =
     let read = c .before in
     let loop = at-loop read .loop in
-    product-over (file read) (loop .i) (below read) (on read) (off read) (weights read) (loop .total) (loop .inv .2) (c .if1 .taken)
+    product-over (file read) (loop .i) (below read) (on read) (off read) (start read .pre .0 .weights)
+    (loop .total) (loop .inv .2) (c .if1 .taken)
 
 -- the product with fact i fits
 fits : (c : tie.Else1 Inv-loop μ-loop) → at-loop (c .before) .loop .total * both (c .before) ≤ largest
@@ -109,7 +107,7 @@ returns-2 : tie.Need-returns-2 Inv-loop μ-loop
 returns-2 c =
     let start = c .before .before .before in
     let loop = c .before .loop in
-    let past : F (start .args .file .now) ≤ loop .i = omega (arith, start .pre .framed .facts-are) in
+    let past : F (start .args .file .now) ≤ loop .i = omega arith in
     (product-end (start .args .file .now) (loop .i) (loop .total) past (loop .inv .2), loop .inv .1)
 
 pub product-spec : {M : Type 1} → statement M

@@ -1,15 +1,15 @@
--- `format::check::literal` meets its contract: 10, then 11.
+-- `format::validate::literal` meets its contract: 10, then 11.
 use native.Mathlib.Omega.{arith}
 use borrow.Author.Needs.{needs}
 use Rattle.format.specs.Laws.RulesRead.{literal-unknown, literal-breaks, literal-passes}
-use Rattle.format.proofs.check.literal.Statement.{statement}
-use Rattle.format.proofs.check.literal.Tie as tie
+use Rattle.format.proofs.validate.literal.Statement.{statement}
+use Rattle.format.proofs.validate.literal.Tie as tie
 
 add-if1 : tie.Need-add-if1
 add-if1 c = search needs
 
-cast-t11 : tie.Need-cast-t11
-cast-t11 c = search needs
+cast-t10 : tie.Need-cast-t10
+cast-t10 c = search needs
 
 returns : tie.Need-returns
 returns c =
@@ -22,8 +22,8 @@ layer-requires c κs = search needs
 add-if2 : tie.Need-add-if2
 add-if2 c = search needs
 
-cast-t15 : tie.Need-cast-t15
-cast-t15 c = search needs
+cast-t14 : tie.Need-cast-t14
+cast-t14 c = search needs
 
 returns-2 : tie.Need-returns-2
 returns-2 c =
@@ -40,4 +40,4 @@ returns-3 c =
 pub literal-spec : {M : Type 1} → statement M
 literal-spec =
     tie.close
-    (tie.spec add-if1 cast-t11 returns layer-requires add-if2 cast-t15 returns-2 returns-3)
+    (tie.spec add-if1 cast-t10 returns layer-requires add-if2 cast-t14 returns-2 returns-3)

@@ -1,4 +1,4 @@
--- `format::check::misruled` meets its contract: the rules before j, and the literals of rule j before i, have no fault.
+-- `format::validate::misruled` meets its contract: the rules before j, and the literals of rule j before i, have no fault.
 use mathlib.Core.Path.{_≡_, refl, sym, subst, _∙_}
 use mathlib.Core.Logic.{inl, inr, ⊎-elim}
 use mathlib.Core.List.{List}
@@ -29,10 +29,10 @@ use Rattle.format.specs.Laws.RulesRead.{
   ended-reached,
 }
 use Rattle.format.specs.declared.Refusal.the-variants.{Broken}
-use Rattle.format.specs.declared.check.Found.the-variants.{Nothing, Fault}
-use Rattle.format.specs.declared.check.Head.the-variants as head
-use Rattle.format.proofs.check.misruled.Statement.{statement}
-use Rattle.format.proofs.check.misruled.Tie as tie
+use Rattle.format.specs.declared.validate.Found.the-variants.{Nothing, Fault}
+use Rattle.format.specs.declared.validate.Head.the-variants as head
+use Rattle.format.proofs.validate.misruled.Statement.{statement}
+use Rattle.format.proofs.validate.misruled.Tie as tie
 
 abbrev Inv-loop : tie.InvT-loop
 Inv-loop file facts derived rules found₀ at j top end start body literals i₀ found i =
@@ -66,12 +66,17 @@ add-at-2 : tie.Need-add-at-2 Inv-loop μ-loop Inv-rules μ-rules
 add-at-2 c = omega arith
 
 rules-holds : tie.Need-rules-holds Inv-loop μ-loop Inv-rules μ-rules
-rules-holds c = (refl, omega arith, reached-first (c .before .args .file .now) (c .before .pre .fits) (omega arith))
+rules-holds c = (refl, omega arith, reached-first (c .before .args .file .now) (c .before .pre .0 .fits) (omega arith))
 
 header-requires : tie.Need-header-requires Inv-loop μ-loop Inv-rules μ-rules
 header-requires c κs =
     let start = c .before .before .before in
-    record { framed = start .pre; below = c .rules-test .taken; inside = c .before .rules .inv .2 .inside }
+    record {
+      framed = start .pre .0;
+      counted = start .pre .1 .0;
+      below = omega arith;
+      inside = c .before .rules .inv .2 .inside;
+    }
 
 enum-known-w : tie.Need-enum-known-w Inv-loop μ-loop Inv-rules μ-rules
 enum-known-w c = search needs
@@ -101,7 +106,7 @@ module _ (c : tie.After-known-told2 Inv-loop μ-loop Inv-rules μ-rules) where
   body = body-length (file at-rules) (at-rules .rules .at) (rule .2) (rule .3)
 
 add-start : tie.Need-add-start Inv-loop μ-loop Inv-rules μ-rules
-add-start c = omega (arith, rule c .3, rule c .4, at-rules c .before .before .pre .size)
+add-start c = omega (arith, rule c .3, rule c .4)
 
 sub-body : tie.Need-sub-body Inv-loop μ-loop Inv-rules μ-rules
 sub-body c = rule c .4
@@ -118,7 +123,7 @@ loop-holds c = (at-rules (c .before) .rules .inv .0, omega arith, λ k h. absurd
 mul-u16-at : tie.Need-mul-u16-at Inv-loop μ-loop Inv-rules μ-rules
 mul-u16-at c =
     let read = c .before .before .before in
-    omega (arith, body read, rule read .3, at-rules read .before .before .pre .size)
+    omega (arith, body read, rule read .3)
 
 u16-at-requires : tie.Need-u16-at-requires Inv-loop μ-loop Inv-rules μ-rules
 u16-at-requires c κs = omega (arith, c .loop-test .taken)
@@ -127,7 +132,11 @@ literal-requires : tie.Need-literal-requires Inv-loop μ-loop Inv-rules μ-rules
 literal-requires c κs =
     let at-rules-test = c .before .before .before .before .before .before .before .before in
     let start = at-rules-test .before .before .before in
-    record { framed = start .pre; below = at-rules-test .rules-test .taken }
+    record {
+      framed = start .pre .0;
+      counted = start .pre .1 .0;
+      below = omega (arith, at-rules-test .rules-test .taken);
+    }
 
 enum-known-w-2 : tie.Need-enum-known-w-2 Inv-loop μ-loop Inv-rules μ-rules
 enum-known-w-2 c = search needs
@@ -139,7 +148,7 @@ add-i : tie.Need-add-i Inv-loop μ-loop Inv-rules μ-rules
 add-i c =
     let at-loop-test = c .before .before .before .before in
     let read = at-loop-test .before .before .before in
-    omega (arith, at-loop-test .loop-test .taken, body read, rule read .3, at-rules read .before .before .pre .size)
+    omega (arith, at-loop-test .loop-test .taken, body read, rule read .3)
 
 loop-less : tie.Need-loop-less Inv-loop μ-loop Inv-rules μ-rules
 loop-less c =
@@ -169,8 +178,7 @@ loop-again c =
 add-j : tie.Need-add-j Inv-loop μ-loop Inv-rules μ-rules
 add-j c =
     let at-rules-test = c .before .before .before .before .before .before .before in
-    let start = at-rules-test .before .before .before in
-    omega (arith, at-rules-test .rules-test .taken, start .pre .few-rules)
+    omega (arith, at-rules-test .rules-test .taken)
 
 rules-less : tie.Need-rules-less Inv-loop μ-loop Inv-rules μ-rules
 rules-less c =
@@ -198,15 +206,14 @@ met c =
     let j = c .before .rules .j in
     let at = c .before .rules .at in
     let here = c .before .rules .inv .2 in
-    let pre = c .before .before .before .pre in
     ⊎-elim
     -- past the last rule,
-    (λ v. inl (v .1 ∙ c .before .rules .inv .0, omega (arith, v .0 .left, pre .rules-are), here))
+    (λ v. inl (v .1 ∙ c .before .rules .inv .0, omega (arith, v .0 .left), here))
     -- by a fault in a header,
     (λ u. inr (⊎-elim
     (λ v.
     let r = header-is s j at (v .1 .ensures) (v .3 .given .1) in
-    (v .3 .given .0 .0, v .5, header-stops s j at here (omega (arith, v .0 .taken, pre .rules-are)) r))
+    (v .3 .given .0 .0, v .5, header-stops s j at here (omega (arith, v .0 .taken)) r))
     -- or by one in a literal
     (λ v.
     let r = header-is s j at (v .1 .ensures) (v .3 .given .1) in
@@ -215,7 +222,7 @@ met c =
     let literal-i = body-literal s at (r .2) (r .3) i below (v .8 .ensures .value) in (
       v .11 .given .0 .0,
       v .13,
-      literal-stops s j at here (omega (arith, v .0 .taken, pre .rules-are)) (r .0) i below (v .6 .inv .2)
+      literal-stops s j at here (omega (arith, v .0 .taken)) (r .0) i below (v .6 .inv .2)
           (literal-is s j at (v .9 .ensures) (v .11 .given .1) (r .1) i literal-i),
     ))
     u))
@@ -238,7 +245,7 @@ module _ (c : tie.After-enum-told2 Inv-loop μ-loop Inv-rules μ-rules) where
   all-passed : Reached (file ended) (R (file ended)) (ended .rules .at)
   all-passed =
       ended-reached (file ended) (ended .rules .j) (ended .rules .at) (met (c .before .before)) (c .enum-told2 .given .1)
-      (omega (arith, ended .rules .inv .1, ended .before .before .pre .rules-are))
+      (omega arith)
 
 enum-told-2 : tie.Need-enum-told-2 Inv-loop μ-loop Inv-rules μ-rules
 enum-told-2 c = search needs
@@ -249,7 +256,7 @@ cast-t29 c = omega arith
 returns-2 : tie.Need-returns-2 Inv-loop μ-loop Inv-rules μ-rules
 returns-2 c =
     let last = ended (c .before) in
-    subst (λ n. Answers (rulesTests (file last)) (Fault (Broken n))) (sym (last .before .before .pre .rules-are))
+    subst (λ n. Answers (rulesTests (file last)) (Fault (Broken n))) (sym (last .before .before .pre .1 .1))
     (rules-leftover (file last) (last .rules .at) (all-passed (c .before)) (c .if1 .taken))
 
 returns-3 : tie.Need-returns-3 Inv-loop μ-loop Inv-rules μ-rules

@@ -1,4 +1,4 @@
--- `format::check::layerless` meets its contract: no derived atom before i has layer 0.
+-- `format::validate::layerless` meets its contract: no derived atom before i has layer 0.
 use mathlib.Core.Path.{_≡_, ap, sym, subst, _∙_}
 use mathlib.Core.List.{List}
 use Prim.Native.Nat.{ℕ, _≤_, _<_, _-_, _+_, _*_}
@@ -11,15 +11,15 @@ use Rattle.format.specs.Checked.{Answers}
 use Rattle.format.specs.Laws.First.{each-none, each-fault}
 use Rattle.format.specs.Laws.RulesRead.{layer-passes, layer-fails}
 use Rattle.format.specs.declared.Refusal.the-variants.{Layerless}
-use Rattle.format.specs.declared.check.Found.the-variants.{Nothing, Fault}
-use Rattle.format.proofs.check.layerless.Statement.{statement}
-use Rattle.format.proofs.check.layerless.Tie as tie
+use Rattle.format.specs.declared.validate.Found.the-variants.{Nothing, Fault}
+use Rattle.format.proofs.validate.layerless.Statement.{statement}
+use Rattle.format.proofs.validate.layerless.Tie as tie
 
 abbrev Inv-loop : tie.InvT-loop
-Inv-loop file facts derived rules layers i₀ i = (i ≤ derived) × ((k : ℕ) → k < i → Answers (layerTest file k) Nothing)
+Inv-loop file facts derived layers i₀ i = (i ≤ derived) × ((k : ℕ) → k < i → Answers (layerTest file k) Nothing)
 
 abbrev μ-loop : tie.MeasureT-loop
-μ-loop file facts derived rules layers i₀ i = derived - i
+μ-loop file facts derived layers i₀ i = derived - i
 
 mul-layers : tie.Need-mul-layers Inv-loop μ-loop
 mul-layers c = omega arith
@@ -36,11 +36,11 @@ add-u8-at c = omega arith
 u8-at-requires : tie.Need-u8-at-requires Inv-loop μ-loop
 u8-at-requires c κs = omega arith
 
-add-t11 : tie.Need-add-t11 Inv-loop μ-loop
-add-t11 c = omega arith
+add-t10 : tie.Need-add-t10 Inv-loop μ-loop
+add-t10 c = omega arith
 
-cast-t12 : tie.Need-cast-t12 Inv-loop μ-loop
-cast-t12 c = omega arith
+cast-t11 : tie.Need-cast-t11 Inv-loop μ-loop
+cast-t11 c = omega arith
 
 -- the layer byte that was read
 module _ (c : tie.After-u8-at Inv-loop μ-loop) where
@@ -54,14 +54,14 @@ module _ (c : tie.After-u8-at Inv-loop μ-loop) where
   file = start .args .file .now
 
   read : c .u8-at .result ≡ byte file (layersAt file + at-loop .loop .i)
-  read = c .u8-at .ensures .value ∙ ap (λ f. byte file (28 + 4 * f + at-loop .loop .i)) (start .pre .facts-are)
+  read = c .u8-at .ensures .value ∙ ap (λ f. byte file (28 + 4 * f + at-loop .loop .i)) (start .pre .1 .facts-are)
 
 returns : tie.Need-returns Inv-loop μ-loop
 returns c =
     let s = file (c .before) in
     let loop = at-loop (c .before) .loop in
     let fails = layer-fails s (loop .i) (read (c .before)) (c .if1 .taken) in
-    subst (λ f. Answers (each (D s) (layerTest s)) (Fault (Layerless (f + loop .i)))) (sym (start (c .before) .pre .facts-are))
+    subst (λ f. Answers (each (D s) (layerTest s)) (Fault (Layerless (f + loop .i)))) (sym (start (c .before) .pre .1 .facts-are))
     (each-fault (D s) (layerTest s) (loop .i) (omega arith) (loop .inv .1) fails)
 
 add-i : tie.Need-add-i Inv-loop μ-loop
@@ -92,8 +92,8 @@ layerless-spec =
     loop-holds
     add-u8-at
     u8-at-requires
-    add-t11
-    cast-t12
+    add-t10
+    cast-t11
     returns
     add-i
     loop-less

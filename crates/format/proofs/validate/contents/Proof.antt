@@ -1,10 +1,10 @@
--- `format::check::contents` meets its contract: each branch passes its test or is its fault.
+-- `format::validate::contents` meets its contract: each branch passes its test or is its fault.
 use borrow.Author.Needs.{needs}
 use Rattle.format.specs.Refusals.{contentsTests}
 use Rattle.format.specs.Laws.First.{none}
 use Rattle.format.specs.Laws.Compared.{same, other}
-use Rattle.format.proofs.check.contents.Statement.{statement}
-use Rattle.format.proofs.check.contents.Tie as tie
+use Rattle.format.proofs.validate.contents.Statement.{statement}
+use Rattle.format.proofs.validate.contents.Tie as tie
 
 u16-at-requires : tie.Need-u16-at-requires
 u16-at-requires c κs = search needs

@@ -1,4 +1,4 @@
--- `format::check::offsets` meets its contract: each branch passes its test or is its fault.
+-- `format::validate::offsets` meets its contract: each branch passes its test or is its fault.
 use borrow.Author.Needs.{needs}
 use native.Mathlib.Omega.{arith}
 use mathlib.Core.Path.{ap₂}
@@ -6,8 +6,8 @@ use Prim.Native.Nat.{_+_, _*_}
 use Rattle.format.specs.Refusals.{offsetTests}
 use Rattle.format.specs.Laws.First.{none}
 use Rattle.format.specs.Laws.Compared.{same, other, most, over}
-use Rattle.format.proofs.check.offsets.Statement.{statement}
-use Rattle.format.proofs.check.offsets.Tie as tie
+use Rattle.format.proofs.validate.offsets.Statement.{statement}
+use Rattle.format.proofs.validate.offsets.Tie as tie
 
 u16-at-requires : tie.Need-u16-at-requires
 u16-at-requires c κs = search needs

@@ -1,4 +1,4 @@
--- `format::check::header` meets its contract: each branch passes its test or is its fault.
+-- `format::validate::header` meets its contract: each branch passes its test or is its fault.
 use mathlib.Core.Path.{ap, refl, _∙_}
 use Prim.Native.Nat.{_+_, _*_}
 use native.Mathlib.Omega.{arith}
@@ -8,14 +8,14 @@ use Rattle.format.specs.File.{after, decode}
 use Rattle.format.specs.Refusals.{headTests}
 use Rattle.format.specs.Laws.First.{none}
 use Rattle.format.specs.Laws.Compared.{most, over, least, under, below, beyond}
-use Rattle.format.proofs.check.header.Statement.{statement}
-use Rattle.format.proofs.check.header.Tie as tie
+use Rattle.format.proofs.validate.header.Statement.{statement}
+use Rattle.format.proofs.validate.header.Tie as tie
 
 sub-if1 : tie.Need-sub-if1
 sub-if1 c = search needs
 
-cast-t14 : tie.Need-cast-t14
-cast-t14 c = search needs
+cast-t13 : tie.Need-cast-t13
+cast-t13 c = search needs
 
 returns : tie.Need-returns
 unfolding headTests
@@ -41,8 +41,8 @@ mul-end c = search needs
 add-end-2 : tie.Need-add-end-2
 add-end-2 c = search needs
 
-cast-t16 : tie.Need-cast-t16
-cast-t16 c = search needs
+cast-t15 : tie.Need-cast-t15
+cast-t15 c = search needs
 
 returns-2 : tie.Need-returns-2
 unfolding headTests
@@ -51,8 +51,8 @@ returns-2 c =
     most {x = start .args .at + 4} refl (omega arith)
     (over (c .before .u16-at2 .ensures .value) _ (c .if2 .taken))
 
-cast-t18 : tie.Need-cast-t18
-cast-t18 c = search needs
+cast-t17 : tie.Need-cast-t17
+cast-t17 c = search needs
 
 returns-3 : tie.Need-returns-3
 unfolding headTests after
@@ -63,8 +63,8 @@ returns-3 c =
     (most (at-u16-at2 .u16-at2 .ensures .value) (c .before .if2 .left)
     (over (ap (λ n. start .args .at + 4 + 2 * n) (at-u16-at2 .u16-at2 .ensures .value)) _ (c .if3 .taken)))
 
-cast-t20 : tie.Need-cast-t20
-cast-t20 c = search needs
+cast-t19 : tie.Need-cast-t19
+cast-t19 c = search needs
 
 returns-4 : tie.Need-returns-4
 unfolding headTests after
@@ -81,8 +81,8 @@ returns-4 c =
 add-if5 : tie.Need-add-if5
 add-if5 c = search needs
 
-cast-t22 : tie.Need-cast-t22
-cast-t22 c = search needs
+cast-t21 : tie.Need-cast-t21
+cast-t21 c = search needs
 
 returns-5 : tie.Need-returns-5
 unfolding headTests after
@@ -127,7 +127,7 @@ header-spec =
     tie.close
     (tie.spec
     sub-if1
-    cast-t14
+    cast-t13
     returns
     u16-at-requires
     add-u16-at
@@ -135,14 +135,14 @@ header-spec =
     add-end
     mul-end
     add-end-2
-    cast-t16
+    cast-t15
     returns-2
-    cast-t18
+    cast-t17
     returns-3
-    cast-t20
+    cast-t19
     returns-4
     add-if5
-    cast-t22
+    cast-t21
     returns-5
     layer-requires
     returns-6)

@@ -1,10 +1,10 @@
--- `format::check::counts` meets its contract: each branch passes its test or is its fault.
+-- `format::validate::counts` meets its contract: each branch passes its test or is its fault.
 use borrow.Author.Needs.{needs}
 use Rattle.format.specs.Refusals.{countsTests}
 use Rattle.format.specs.Laws.First.{none}
 use Rattle.format.specs.Laws.Compared.{most, over}
-use Rattle.format.proofs.check.counts.Statement.{statement}
-use Rattle.format.proofs.check.counts.Tie as tie
+use Rattle.format.proofs.validate.counts.Statement.{statement}
+use Rattle.format.proofs.validate.counts.Tie as tie
 
 u16-at-requires : tie.Need-u16-at-requires
 u16-at-requires c κs = search needs

@@ -1,10 +1,11 @@
--- `format::check::check` meets its contract: after each part, the tests that are left answer what the whole check answers.
+-- `format::validate::check` meets its contract: after each part, the tests that are left answer what the whole check answers.
 use mathlib.Core.List.{List}
 use Prim.Native.Nat.{ℕ}
 use borrow.Author.Needs.{needs}
 use Rattle.format.specs.File.{F}
 use Rattle.format.specs.Refusals.{countsTests, offsetTests, factTest, each}
-use Rattle.format.specs.Checked.{Answers, Framed}
+use Rattle.format.specs.Checked.{Answers, Framed, Counted}
+use Rattle.format.specs.Laws.FactsRead.{weighted}
 use Rattle.format.specs.Laws.Whole.{
   after1,
   after2,
@@ -26,11 +27,10 @@ use Rattle.format.specs.Laws.Whole.{
   total-is,
   total-fails,
   framed,
-  weighed,
 }
-use Rattle.format.specs.declared.check.Found.the-variants.{Nothing}
-use Rattle.format.proofs.check.check.Statement.{statement}
-use Rattle.format.proofs.check.check.Tie as tie
+use Rattle.format.specs.declared.validate.Found.the-variants.{Nothing}
+use Rattle.format.proofs.validate.check.Statement.{statement}
+use Rattle.format.proofs.validate.check.Tie as tie
 
 -- ---- the places
 
@@ -75,16 +75,17 @@ offsets-pass c = answers-is (c .before .before .offsets .ensures) (c .enum-told3
 facts-pass : (c : tie.After-enum-told4) → Answers (each (F (file (read5 c))) (factTest (file (read5 c)))) Nothing
 facts-pass c = answers-is (c .before .before .weightless .ensures) (c .enum-told4 .given .1)
 
--- the counts, read off a file that passed 1 to 4
-frame : (c : tie.After-u16-at3) → Framed (file c) (c .before .before .u16-at .result) (c .before .u16-at2 .result) (c .u16-at3 .result)
+-- the file has passed 1 to 4,
+frame : (c : tie.After-u16-at3) → Framed (file c)
 frame c =
-    let at-u16-at2 = c .before in
-    let at-u16-at = at-u16-at2 .before in
-    let at-enum-told3 = at-u16-at .before in
+    let at-enum-told3 = c .before .before .before in
     let at-enum-told2 = at-enum-told3 .before .before .before in
     let at-if2 = at-enum-told2 .before .before .before .before .before .before in
     framed (file c) (at-if2 .if2 .left) (counts-pass at-enum-told2) (offsets-pass at-enum-told3)
-    (at-u16-at .u16-at .ensures .value) (at-u16-at2 .u16-at2 .ensures .value) (c .u16-at3 .ensures .value)
+
+-- and these are its counts of facts and derived atoms
+counted : (c : tie.After-u16-at3) → Counted (file c) (c .before .before .u16-at .result) (c .before .u16-at2 .result)
+counted c = record { facts-are = c .before .before .u16-at .ensures .value; derived-are = c .before .u16-at2 .ensures .value }
 
 -- ---- what is left after each part that found no fault
 
@@ -179,7 +180,7 @@ u16-at-requires-3 : tie.Need-u16-at-requires-3
 u16-at-requires-3 c κs = search needs
 
 weightless-requires : tie.Need-weightless-requires
-weightless-requires c κs = frame c
+weightless-requires c κs = (frame c, counted c .facts-are)
 
 enum-known-w-4 : tie.Need-enum-known-w-4
 enum-known-w-4 c = search needs
@@ -194,7 +195,9 @@ enum-told-4 : tie.Need-enum-told-4
 enum-told-4 c = search needs
 
 product-requires : tie.Need-product-requires
-product-requires c κs = weighed (file (read5 c)) (frame (read5 c)) (facts-pass c)
+product-requires c κs =
+    let read = read5 c in
+    (record { framed = frame read; weights = weighted (file read) (facts-pass c) }, counted read .facts-are)
 
 enum-known-total : tie.Need-enum-known-total
 enum-known-total c = search needs
@@ -209,7 +212,7 @@ returns-7 c =
     refuses _ _ (left5 at-enum-told4) (total-fails (file (read5 at-enum-told4)) (at-product .product .ensures) (c .enum-told5 .given .1))
 
 layerless-requires : tie.Need-layerless-requires
-layerless-requires c κs = frame (read6 c)
+layerless-requires c κs = (frame (read6 c), counted (read6 c))
 
 enum-known-w-5 : tie.Need-enum-known-w-5
 enum-known-w-5 c = search needs
@@ -223,7 +226,9 @@ enum-told-6 : tie.Need-enum-told-6
 enum-told-6 c = search needs
 
 misruled-requires : tie.Need-misruled-requires
-misruled-requires c κs = frame (read7 c)
+misruled-requires c κs =
+    let read = read7 c in
+    (frame read, (counted read, read .u16-at3 .ensures .value))
 
 enum-known-w-6 : tie.Need-enum-known-w-6
 enum-known-w-6 c = search needs

@@ -1,4 +1,4 @@
--- `format::check::layer` meets its contract: the byte of a derived atom, times 0 for a fact.
+-- `format::validate::layer` meets its contract: the byte of a derived atom, times 0 for a fact.
 use native.Mathlib.Omega.{arith}
 use borrow.Author.Needs.{needs}
 use Prim.Native.Nat.{_*_}
@@ -6,8 +6,8 @@ use mir.Val.{boolByte}
 use lib.Dec.{leb}
 use Rattle.format.specs.Checked.{LayerOf}
 use Rattle.format.specs.Laws.Decoded.{layer-read}
-use Rattle.format.proofs.check.layer.Statement.{statement}
-use Rattle.format.proofs.check.layer.Tie as tie
+use Rattle.format.proofs.validate.layer.Statement.{statement}
+use Rattle.format.proofs.validate.layer.Tie as tie
 
 cast-is-derived : tie.Need-cast-is-derived
 cast-is-derived c = search needs
@@ -31,7 +31,7 @@ module _ (c : tie.After-u8-at) where
 
   read : LayerOf (start .args .file .now) (start .args .atom) (c .u8-at .result * boolByte (leb (start .args .facts) (start .args .atom)))
   read =
-      layer-read (start .args .file .now) (start .args .atom) (start .pre .0 .facts-are) (omega arith)
+      layer-read (start .args .file .now) (start .args .atom) (start .pre .1 .0) (start .pre .1 .1)
       (c .u8-at .ensures .value) (c .u8-at .ensures .small)
 
 mul-result : tie.Need-mul-result

@@ -1,4 +1,4 @@
--- `format::check::weightless` meets its contract: no fact before i is weightless.
+-- `format::validate::weightless` meets its contract: no fact before i is weightless.
 use Prim.Native.Nat.{ℕ, _≤_, _<_, _-_}
 use native.Mathlib.Omega.{arith}
 use borrow.Author.Count.{below-more}
@@ -7,15 +7,15 @@ use Rattle.format.specs.Refusals.{factTest}
 use Rattle.format.specs.Checked.{Answers}
 use Rattle.format.specs.Laws.First.{each-none, each-fault}
 use Rattle.format.specs.Laws.FactsRead.{fact-passes, fact-fails}
-use Rattle.format.specs.declared.check.Found.the-variants.{Nothing}
-use Rattle.format.proofs.check.weightless.Statement.{statement}
-use Rattle.format.proofs.check.weightless.Tie as tie
+use Rattle.format.specs.declared.validate.Found.the-variants.{Nothing}
+use Rattle.format.proofs.validate.weightless.Statement.{statement}
+use Rattle.format.proofs.validate.weightless.Tie as tie
 
 abbrev Inv-loop : tie.InvT-loop
-Inv-loop file facts derived rules i₀ i = (i ≤ facts) × ((k : ℕ) → k < i → Answers (factTest file k) Nothing)
+Inv-loop file facts i₀ i = (i ≤ facts) × ((k : ℕ) → k < i → Answers (factTest file k) Nothing)
 
 abbrev μ-loop : tie.MeasureT-loop
-μ-loop file facts derived rules i₀ i = facts - i
+μ-loop file facts i₀ i = facts - i
 
 loop-holds : tie.Need-loop-holds Inv-loop μ-loop
 loop-holds c = (omega arith, λ k h. absurd (omega arith))
@@ -29,8 +29,8 @@ add-u32-at c = omega arith
 u32-at-requires : tie.Need-u32-at-requires Inv-loop μ-loop
 u32-at-requires c κs = omega arith
 
-cast-t10 : tie.Need-cast-t10 Inv-loop μ-loop
-cast-t10 c = omega arith
+cast-t8 : tie.Need-cast-t8 Inv-loop μ-loop
+cast-t8 c = omega arith
 
 returns : tie.Need-returns Inv-loop μ-loop
 returns c =
@@ -68,7 +68,7 @@ weightless-spec =
     mul-u32-at
     add-u32-at
     u32-at-requires
-    cast-t10
+    cast-t8
     returns
     add-i
     loop-less
