@@ -1,0 +1,6 @@
+pub mod Combine
+pub mod Means
+pub mod Canon
+pub mod Weight
+pub mod Number
+pub mod Listing

@@ -1,0 +1,4 @@
+pub mod Store
+pub mod Full
+pub mod Calls
+pub mod Laws
