@@ -4,3 +4,4 @@ pub mod Canon
 pub mod Weight
 pub mod Number
 pub mod Listing
+pub mod Function

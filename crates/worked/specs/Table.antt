@@ -1,16 +1,19 @@
 -- P1 to P12 (document 01, "Worked files, and the edges"): one table, one statement, by computation.
--- A row is a file, a question about what it means, and the answer that 01 gives. P7 and P8 join when listings and the store are defined.
+-- A row is a file, a question about what it means, and the answer that 01 gives. P8 joins when updates are defined.
 use mathlib.Core.Path.{_≡_, refl}
 use mathlib.Core.Bool.{cond}
 use mathlib.Core.List.{List, [], _∷_, map}
 use Prim.Native.Nat.{ℕ}
 use lib.Dec.{eqb}
-use Rattle.meaning.specs.Meaning.{Literal, Program, Share, total, weightOf, given}
+use lib.ListN.{length}
+use Rattle.meaning.specs.Meaning.{Literal, Program, Share, total, holds, weightOf, given}
 use Rattle.format.specs.Bytes.{u16, u32}
 use Rattle.format.specs.File.{decode}
 use Rattle.format.specs.Refusals.{verdict, number}
 use Rattle.format.specs.declared.Verdict.{Verdict}
 use Rattle.format.specs.declared.Verdict.the-variants.{Accepted, Refused}
+use Rattle.diagram.specs.Diagram.{diagramOf}
+use Rattle.diagram.specs.Listing.{listing}
 use Rattle.worked.specs.Files.{fileS, fileWet, fileGraph, plain, not}
 
 -- ---- questions about the program that a file holds
@@ -18,15 +21,17 @@ use Rattle.worked.specs.Files.{fileS, fileWet, fileGraph, plain, not}
 pub data Question : Type 0 where
   weight : ℕ → Question  -- the weight of an atom: the weight, and the total
   share : ℕ → List Literal → Question  -- the weight of an atom given evidence: both weights, or refusal 20
+  list : ℕ → Question  -- the listing of an atom
 
 -- "Given evidence: .. 20", "evidence of weight 0"
 unfoldable pub shared : Share → List ℕ
 shared r = cond (eqb (r .evidence) 0) (20 ∷ []) (r .both ∷ r .evidence ∷ [])
 
 unfoldable pub ask : Program → Question → List ℕ
-unfolding weightOf total given shared
+unfolding weightOf total given shared listing diagramOf holds
 ask P (weight a) = weightOf P a ∷ total (P .facts) ∷ []
 ask P (share q e) = shared (given P q e)
+ask P (list a) = listing (length (P .facts)) (diagramOf (length (P .facts)) 0 (holds P a))
 
 -- the answer for a file: its refusal, or what its program means
 unfoldable pub answer : List ℕ → Question → List ℕ
@@ -55,6 +60,7 @@ table =
     row fileS (weight 5) (3 ∷ 20 ∷ []) ∷  -- P4
     row fileS (share 2 (not 3 ∷ [])) (3 ∷ 18 ∷ []) ∷  -- P5
     row fileS (share 2 (plain 3 ∷ not 3 ∷ [])) (20 ∷ []) ∷  -- P6
+    row fileS (list 3) (2 ∷ 0 ∷ 2 ∷ 0 ∷ 3 ∷ 0 ∷ 1 ∷ 0 ∷ 0 ∷ 0 ∷ 1 ∷ 0 ∷ 0 ∷ 0 ∷ 0 ∷ 0 ∷ 2 ∷ 0 ∷ []) ∷  -- P7
     row fileWet (weight 2) (44 ∷ 100 ∷ []) ∷  -- P9
     row fileWet (share 0 (not 2 ∷ [])) (0 ∷ 56 ∷ []) ∷  -- P10
     row fileGraph (weight 9) (10 ∷ 16 ∷ []) ∷  -- P11
