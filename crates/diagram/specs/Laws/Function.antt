@@ -2,13 +2,13 @@
 -- Fact by fact: with the first fact off the function is the low side's, with it on the high side's.
 use mathlib.Core.Path.{_≡_, refl, sym, _∙_}
 use mathlib.Core.Bool.{Bool, true, false, cond}
-use mathlib.Core.List.{List, [], _∷_}
-use Prim.Native.Nat.{ℕ, zero, suc, _+_, _-_, _≤_, _<_}
+use mathlib.Core.List.{[], _∷_}
+use Prim.Native.Nat.{ℕ, zero, suc, _+_, _-_}
 use native.Mathlib.Omega.{arith}
 use native.Mathlib.Nat.{sub-self, sub-zero, zero-add}
 use lib.ListN.{length}
 use Rattle.meaning.specs.Meaning.{Choice, has}
-use Rattle.diagram.specs.Diagram.{Diagram, leaf, eval, says, Good, mk, diagramOf}
+use Rattle.diagram.specs.Diagram.{Diagram, eval, says, Good, diagramOf}
 use Rattle.diagram.specs.Laws.Combine.{mk-good}
 use Rattle.diagram.specs.Laws.Means.{eval-mk, eval-below}
 use Rattle.diagram.specs.Laws.Canon.{canonical}
