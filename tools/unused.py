@@ -13,7 +13,7 @@ for path in sorted(glob.glob("crates/*/specs/**/*.antt", recursive=True) + glob.
     for names in uses:
         for name in (n.strip() for n in names.replace("\n", " ").split(",")):
             local = name.split(" as ")[-1].strip()
-            if local and not all(part in words for part in local.split("_") if part):
+            if local and local not in words and not all(part in words for part in local.split("_") if part):
                 unused.append(name)
     if unused:
         print(path, *unused)
