@@ -1,8 +1,8 @@
 // The program file (document 01, "The program file"): the check of a file, and the walk over its rules.
 //
 // specs/File.antt says what the bytes mean, specs/Refusals.antt which refusal a file gets, and specs/Walk.antt what the
-// walk finds. No public function asks anything of its caller.
-mod bytes;
+// walk finds. No public function asks anything of its caller, but for the reads of `bytes`, which ask for a place inside.
+pub mod bytes;
 pub mod numbers;
 pub mod validate;
 pub mod walk;
