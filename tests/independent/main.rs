@@ -6,8 +6,14 @@
 //!
 //! SCALE (1 where none is given) multiplies the number of files made by chance. The same scale gives the same
 //! files on every machine.
+//!
+//!     target/tests/independent builds-input
+//!     target/tests/independent builds-output
+//!
+//! write the input of the test program `builds` and what it must print, and test nothing.
 
 mod boundary;
+mod builds;
 mod chance;
 mod compare;
 mod corpus;
@@ -28,10 +34,27 @@ mod worked;
 
 use compare::Met;
 use report::Report;
+use std::io::Write;
 use std::process::exit;
 
 fn main() {
-    let scale = scale();
+    match std::env::args().nth(1).as_deref() {
+        Some("builds-input") => print(&builds::input()),
+        Some("builds-output") => print(builds::output().as_bytes()),
+        None => test(1),
+        Some(text) => test(scale(text)),
+    }
+}
+
+fn print(bytes: &[u8]) {
+    let mut out = std::io::stdout();
+    if let Err(fault) = out.write_all(bytes).and_then(|()| out.flush()) {
+        eprintln!("not written: {fault}");
+        exit(2);
+    }
+}
+
+fn test(scale: u64) {
     let mut report = Report::default();
     check_self(&mut report);
     let mut met = Met::new();
@@ -45,8 +68,7 @@ fn main() {
     exit(if report.finish() { 0 } else { 1 });
 }
 
-fn scale() -> u64 {
-    let Some(text) = std::env::args().nth(1) else { return 1 };
+fn scale(text: &str) -> u64 {
     text.parse().unwrap_or_else(|_| {
         eprintln!("the scale is a whole number, not {text}");
         exit(2);
@@ -61,6 +83,7 @@ fn check_self(report: &mut Report) {
     report.add("self: read after writing", paper::round_trip());
     report.add("self: written after reading", paper::read_and_written());
     report.add("self: totals by reader and model", paper::totals_agree());
+    builds::check(report);
 }
 
 /// A mutant passes where one file showed it.

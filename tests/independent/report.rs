@@ -7,12 +7,12 @@ pub struct Report {
 }
 
 impl Report {
-    /// A test that passed gives the number of its files, one that failed says why.
+    /// A test that passed gives the number of its cases (files or scripts), one that failed says why.
     pub fn add(&mut self, name: &str, result: Result<usize, String>) {
         match result {
-            Ok(files) => {
+            Ok(cases) => {
                 self.passed += 1;
-                println!("ok {name} ({files} files)");
+                println!("ok {name} ({cases} cases)");
             }
             Err(reason) => {
                 self.failed += 1;
