@@ -38,8 +38,9 @@ of-from F (suc n) i f e [] z = absurd (omega arith)
 of-from F (suc n) i f e (b ∷ c) z =
     let l : Choice → Bool = λ d. f (false ∷ d) in
     let h : Choice → Bool = λ d. f (true ∷ d) in
-    let low = later F i (diagramOf n (suc i) l) (of-good F n (suc i) l (omega arith)) b c ∙ of-from F n (suc i) l (omega arith) c (omega arith) in
-    let high = later F i (diagramOf n (suc i) h) (of-good F n (suc i) h (omega arith)) b c ∙ of-from F n (suc i) h (omega arith) c (omega arith) in
+    let k : suc i + n ≡ F = omega arith in
+    let low = later F i (diagramOf n (suc i) l) (of-good F n (suc i) l k) b c ∙ of-from F n (suc i) l k c (omega arith) in
+    let high = later F i (diagramOf n (suc i) h) (of-good F n (suc i) h k) b c ∙ of-from F n (suc i) h k c (omega arith) in
     eval-mk i (diagramOf n (suc i) l) (diagramOf n (suc i) h) (λ x. has (b ∷ c) (x - i)) ∙ rw (sub-self i) (side f c b high low)
 
 -- it says of every choice what the function says,
