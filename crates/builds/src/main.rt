@@ -1,25 +1,12 @@
 // Reads scripts of builds from standard input, runs each from an empty store, and prints the results and the nodes.
 //
 // A script: the store's size (2 bytes), the number of instructions (2 bytes), then the instructions (crate script).
+use format::bytes::u16_at;
 use libc::STDIN_FILENO;
 use libc::STDOUT_FILENO;
 use script::End;
-ghost use Prim.Native.Nat.{_+_, _≤_, _<_};
+ghost use Prim.Native.Nat.{_≤_};
 ghost use lib.ListN.{length};
-
-fn wide(x: u8) -> usize
-    ensures { λ r. ⌜ r < 256 ⌝ }
-{
-    x as usize
-}
-
-// The two bytes at `at`.
-fn two(s: &[u8], at: usize) -> usize
-    requires { ⌜ at + 2 ≤ length (now s) ⌝ }
-    ensures { λ r. ⌜ r < 65536 ⌝ }
-{
-    wide(s[at]) + 256 * wide(s[at + 1])
-}
 
 fn print(n: u32) {
     io::print_decimal(STDOUT_FILENO, n as u64);
@@ -99,8 +86,8 @@ fn run_one(script: &[u8], size: usize) {
 fn run_all(input: &[u8]) {
     let mut at = 0;
     while at + 4 <= input.len() {
-        let size = two(input, at);
-        let len = 5 * two(input, at + 2);
+        let size = u16_at(input, at);
+        let len = 5 * u16_at(input, at + 2);
         let from = at + 4;
         if input.len() - from < len {
             return;

@@ -17,14 +17,14 @@ loop-holds c = search needs
 add-loop : tie.Need-add-loop Inv-loop μ-loop
 add-loop c = search needs
 
-two-requires : tie.Need-two-requires Inv-loop μ-loop
-two-requires c κs = search needs
+u16-at-requires : tie.Need-u16-at-requires Inv-loop μ-loop
+u16-at-requires c κs = search needs
 
-add-two : tie.Need-add-two Inv-loop μ-loop
-add-two c = search needs
+add-u16-at : tie.Need-add-u16-at Inv-loop μ-loop
+add-u16-at c = search needs
 
-two-requires-2 : tie.Need-two-requires-2 Inv-loop μ-loop
-two-requires-2 c κs = search needs
+u16-at-requires-2 : tie.Need-u16-at-requires-2 Inv-loop μ-loop
+u16-at-requires-2 c κs = search needs
 
 mul-len : tie.Need-mul-len Inv-loop μ-loop
 mul-len c = search needs
@@ -70,9 +70,9 @@ run-all-spec =
     μ-loop
     loop-holds
     add-loop
-    two-requires
-    add-two
-    two-requires-2
+    u16-at-requires
+    add-u16-at
+    u16-at-requires-2
     mul-len
     add-from
     sub-if1

@@ -197,17 +197,6 @@ accepted-counts s {f} {d} {r} {t} e =
     let q : Accepted f d r t ≡ v = sym e ∙ accepted (fileTests s) v e .answer v in
     (cc, cc, cc, cc)
 
--- ---- where the rules stand
-
-module _ {s : List ℕ} (p : Passed s) where
-  -- every rule starts within the file, and so does what follows the last,
-  pub start-inside : (j : ℕ) → j ≤ R s → startOf s j ≤ length s
-  start-inside = starts s (R s) (p .fits) (p .rule)
-
-  -- with room for its header
-  pub start-room : (j : ℕ) → j < R s → startOf s j + 4 ≤ length s
-  start-room j q = p .rule j q .header
-
 -- ---- the program of an accepted file is legal
 
 -- two bytes make a number below 65,536, past the end too
