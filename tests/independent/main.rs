@@ -9,8 +9,10 @@
 //!
 //!     target/tests/independent builds-input
 //!     target/tests/independent builds-output
+//!     target/tests/independent runs-input
+//!     target/tests/independent runs-output
 //!
-//! write the input of the test program `builds` and what it must print, and test nothing.
+//! write the input of the test programs `builds` and `runs` and what they must print, and test nothing.
 
 mod boundary;
 mod builds;
@@ -19,6 +21,7 @@ mod compare;
 mod corpus;
 mod damage;
 mod encode;
+mod engine;
 mod file;
 mod legal;
 mod model;
@@ -41,6 +44,8 @@ fn main() {
     match std::env::args().nth(1).as_deref() {
         Some("builds-input") => print(&builds::input()),
         Some("builds-output") => print(builds::output().as_bytes()),
+        Some("runs-input") => print(&engine::input()),
+        Some("runs-output") => print(engine::output().as_bytes()),
         None => test(1),
         Some(text) => test(scale(text)),
     }
@@ -84,6 +89,7 @@ fn check_self(report: &mut Report) {
     report.add("self: written after reading", paper::read_and_written());
     report.add("self: totals by reader and model", paper::totals_agree());
     builds::check(report);
+    engine::check(report);
 }
 
 /// A mutant passes where one file showed it.

@@ -1,0 +1,5 @@
+pub mod Questions
+pub mod Weights
+pub mod Copy
+pub mod Write
+pub mod Laws

@@ -1,0 +1,3 @@
+// Questions: weights and listings from the diagrams of a store (document 01, "Questions and listings").
+pub mod listing;
+pub mod weights;
