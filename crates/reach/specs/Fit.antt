@@ -57,6 +57,10 @@ obeys F ns i =
     not (eqb (getD ns i nowhere .low) (getD ns i nowhere .high)) &&
     not (any (λ j. sameNode (getD ns j nowhere) (getD ns i nowhere)) (upto i (λ j. j)))
 
+-- "the other places name nodes in use"
+abbrev pub inUse : ℕ → List ℕ → Bool
+inUse count places = all (λ p. ltb p (count + 2)) places
+
 -- ---- the test
 
 unfoldable pub storeFits : Program → List ℕ → List ℕ → ℕ → ℕ → Bool
@@ -66,7 +70,7 @@ storeFits P nodes places layer count =
     asLoaded (length (P .facts)) (nodesIn nodes count) places &&
     below count (obeys (length (P .facts)) (nodesIn nodes count)) &&
     all (eqb 0) (drop count nodes) && all (eqb 0) (drop (atoms P) places) &&
-    all (λ p. ltb p (count + 2)) (take (atoms P) places) &&
+    inUse count (take (atoms P) places) &&
     (eqb layer finishedLayer || hasAtoms P layer)
 
 unfoldable pub fitTogether : List ℕ → List ℕ → List ℕ → ℕ → ℕ → Bool

@@ -1,7 +1,22 @@
 // The calls of include/reach.h: what C may call, for any file, any memory and any numbers.
-ghost use mathlib.Core.Path.{_≡_};
-ghost use Rattle.reach.specs.Calls.{read};
+//
+// Each call tests what 01 says it tests, in 01's order, hands the parts of the lent memory that are used to the crate that does the work,
+// and gives its answer in C's numbers (specs/Calls.antt).
+
+mod fit;
+mod questioning;
+mod stepping;
+
 use format::Verdict;
+ghost use mathlib.Core.Path.{_≡_};
+ghost use Rattle.reach.specs.Calls.{ours, StepIs, RanIs, WeightIs, ListIs};
+
+// reach_state
+#[repr(C)]
+pub struct State {
+    pub layer: u32,
+    pub nodes: u32,
+}
 
 // reach_counts
 #[repr(C)]
@@ -13,10 +28,52 @@ pub struct Counts {
     pub total: u64,
 }
 
+// reach_step
+#[repr(C)]
+pub struct Step {
+    pub refusal: u32,
+    pub detail: u32,
+    pub state: State,
+}
+
+// reach_ran
+#[repr(C)]
+pub struct Ran {
+    pub refusal: u32,
+    pub detail: u32,
+    pub state: State,
+    pub outcome: u32,
+    pub updates: u64,
+}
+
+// reach_weighed
+#[repr(C)]
+pub struct Weighed {
+    pub refusal: u32,
+    pub detail: u32,
+    pub weight: u64,
+}
+
+// reach_shared
+#[repr(C)]
+pub struct Shared {
+    pub refusal: u32,
+    pub detail: u32,
+    pub both: u64,
+    pub evidence: u64,
+}
+
+// reach_listed
+#[repr(C)]
+pub struct Listed {
+    pub refusal: u32,
+    pub detail: u32,
+    pub length: u64,
+}
 // Reads a file's counts and total.
 #[no_mangle]
 pub extern "C" fn reach_read(file: &[u8]) -> Counts
-    ensures { λ r. ⌜ r ≡ read (now (file .entry)) ⌝ }
+    ensures { λ r. ⌜ r ≡ ours .read (now (file .entry)) ⌝ }
 {
     match format::validate::check(file) {
         Verdict::Accepted {
@@ -39,4 +96,132 @@ pub extern "C" fn reach_read(file: &[u8]) -> Counts
             total: 0,
         },
     }
+}
+
+// Loads a file into the lent memory.
+#[no_mangle]
+pub extern "C" fn reach_load(file: &[u8], nodes: &mut [u32], places: &mut [u16]) -> Step
+    ensures { λ r. ⌜ StepIs (ours .load (now (file .entry)) (now (nodes .entry)) (now (places .entry)))
+        (now (nodes .exit)) (now (places .exit)) r ⌝ }
+{
+    match format::validate::check(file) {
+        Verdict::Accepted {
+            facts: _,
+            derived: _,
+            rules: _,
+            total: _,
+        } => {
+            if places.len() < 544 {
+                return stepping::no_load(36, 0);
+            }
+            let room = fit::room(nodes.len());
+            stepping::load(file, &mut nodes[..room], &mut places[..544])
+        }
+        Verdict::Refused(why) => stepping::no_load(
+            format::numbers::number(why),
+            format::numbers::detail(why),
+        ),
+    }
+}
+
+// Updates an atom of the layer in work.
+#[no_mangle]
+pub extern "C" fn reach_update(
+    file: &[u8],
+    nodes: &mut [u32],
+    places: &mut [u16],
+    state: State,
+    atom: u32,
+) -> Step
+    ensures { λ r. ⌜ StepIs (ours .update (now (file .entry)) (now (nodes .entry)) (now (places .entry)) state atom)
+        (now (nodes .exit)) (now (places .exit)) r ⌝ }
+{
+    if !fit::fits(file, nodes, places, state.layer, state.nodes) {
+        return stepping::refused(36, 0, state);
+    }
+    let room = fit::room(nodes.len());
+    stepping::update(file, &mut nodes[..room], &mut places[..544], state, atom)
+}
+
+// Closes the layer in work.
+#[no_mangle]
+pub extern "C" fn reach_close(
+    file: &[u8],
+    nodes: &mut [u32],
+    places: &mut [u16],
+    state: State,
+) -> Step
+    ensures { λ r. ⌜ StepIs (ours .close (now (file .entry)) (now (nodes .entry)) (now (places .entry)) state)
+        (now (nodes .exit)) (now (places .exit)) r ⌝ }
+{
+    if !fit::fits(file, nodes, places, state.layer, state.nodes) {
+        return stepping::refused(36, 0, state);
+    }
+    let room = fit::room(nodes.len());
+    stepping::close(file, &mut nodes[..room], &places[..544], state)
+}
+
+// Runs with a budget of updates.
+#[no_mangle]
+pub extern "C" fn reach_run(
+    file: &[u8],
+    nodes: &mut [u32],
+    places: &mut [u16],
+    state: State,
+    budget: u64,
+) -> Ran
+    ensures { λ r. ⌜ RanIs (ours .run (now (file .entry)) (now (nodes .entry)) (now (places .entry)) state budget)
+        (now (nodes .exit)) (now (places .exit)) r ⌝ }
+{
+    if !fit::fits(file, nodes, places, state.layer, state.nodes) {
+        return Ran {
+            refusal: 36,
+            detail: 0,
+            state,
+            outcome: 0,
+            updates: 0,
+        };
+    }
+    let room = fit::room(nodes.len());
+    stepping::run(file, &mut nodes[..room], &mut places[..544], state, budget)
+}
+
+// The weight so far of an atom.
+#[no_mangle]
+pub extern "C" fn reach_weight(
+    file: &[u8],
+    nodes: &[u32],
+    places: &[u16],
+    state: State,
+    atom: u32,
+    numbers: &mut [u64],
+) -> Weighed
+    ensures { λ r. ⌜ WeightIs (ours .weight (now (file .entry)) (now (nodes .entry)) (now (places .entry)) state atom
+        (now (numbers .entry))) (now (numbers .exit)) r ⌝ }
+{
+    if !fit::fits(file, nodes, places, state.layer, state.nodes) {
+        return questioning::no_weight(36);
+    }
+    let room = fit::room(nodes.len());
+    questioning::weight(file, &nodes[..room], &places[..544], state, atom, numbers)
+}
+
+// The listing of an atom of a finished run.
+#[no_mangle]
+pub extern "C" fn reach_listing(
+    file: &[u8],
+    nodes: &[u32],
+    places: &[u16],
+    state: State,
+    atom: u32,
+    out: &mut [u8],
+) -> Listed
+    ensures { λ r. ⌜ ListIs (ours .listing (now (file .entry)) (now (nodes .entry)) (now (places .entry)) state atom
+        (now (out .entry))) (now (out .exit)) r ⌝ }
+{
+    if !fit::fits(file, nodes, places, state.layer, state.nodes) {
+        return questioning::no_listing(36);
+    }
+    let room = fit::room(nodes.len());
+    questioning::listing(file, &nodes[..room], &places[..544], state, atom, out)
 }

@@ -1,0 +1,69 @@
+-- What the inner functions of the calls ask and answer: the same definitions, over the parts of the lent memory that are used.
+use mathlib.Core.Path.{_≡_}
+use mathlib.Core.Bool.{true, false, cond}
+use mathlib.Core.List.{List, _++_}
+use Prim.Native.Nat.{ℕ, _+_, _≤_}
+use lib.Dec.{eqb, ltb, leb}
+use lib.ListN.{length, drop}
+use Rattle.meaning.specs.Meaning.{atoms}
+use Rattle.format.specs.File.{F, D, decode}
+use Rattle.format.specs.Laws.Accepted.{Passed}
+use Rattle.store.specs.Calls.{zeroed}
+use Rattle.engine.specs.Calls.{storeIn}
+use Rattle.engine.specs.Answers.{Fits}
+use Rattle.engine.specs.declared.How.{How}
+use Rattle.engine.specs.declared.How.the-variants as how
+use Rattle.questions.specs.Questions.{weightSoFar, listed}
+use Rattle.rounds.specs.Layers.{finishedLayer}
+use Rattle.reach.specs.Calls.{Weighing, Listing}
+use Rattle.reach.specs.declared.State.{State}
+
+-- a passed file, its counts, and the used parts of the lent memory
+pub record FitAsked (s nodes places : List ℕ) (facts derived : ℕ) : Type 0 where
+  pub passed : Passed s
+  pub facts-are : facts ≡ F s
+  pub derived-are : derived ≡ D s
+  pub room : length nodes ≤ 4096
+  pub long : length places ≡ 544
+
+-- file, words, places and state fit together, as the engine asks it
+abbrev pub InnerFits : List ℕ → List ℕ → List ℕ → State → Type 0
+InnerFits s nodes places state = Fits s nodes places (record { layer = state .layer; nodes = state .nodes })
+
+-- the state of a refused loading
+abbrev pub zeros : State
+zeros = record { layer = 0; nodes = 0 }
+
+abbrev pub outcomeOf : How → ℕ
+outcomeOf how.Finished = 1
+outcomeOf how.Spent = 2
+outcomeOf how.Full = 3
+
+-- "Weight so far: 13, 19."
+abbrev pub innerWeightRefusal : List ℕ → List ℕ → ℕ → List ℕ → ℕ
+innerWeightRefusal s nodes atom numbers =
+    cond (ltb atom (atoms (decode s))) (cond (leb (length nodes + 2) (length numbers)) 0 19) 13
+
+abbrev pub innerWeight : List ℕ → List ℕ → List ℕ → State → ℕ → List ℕ → Weighing
+innerWeight s nodes places state atom numbers = elim (eqb (innerWeightRefusal s nodes atom numbers) 0) [
+  | true ↦ record {
+    answer = record { refusal = 0; detail = 0; weight = weightSoFar (decode s) (storeIn nodes places (state .nodes)) atom };
+    numbers = zeroed numbers 0 (length nodes + 2);
+  }
+  | false ↦ record { answer = record { refusal = innerWeightRefusal s nodes atom numbers; detail = 0; weight = 0 }; numbers = numbers }
+]
+
+-- "Listing: 17, 13, 21."
+abbrev pub innerListingRefusal : List ℕ → List ℕ → List ℕ → State → ℕ → List ℕ → ℕ
+innerListingRefusal s nodes places state atom out =
+    cond (eqb (state .layer) finishedLayer)
+    (cond (ltb atom (atoms (decode s)))
+    (cond (leb (length (listed (decode s) (storeIn nodes places (state .nodes)) atom)) (length out)) 0 21) 13) 17
+
+abbrev pub innerListing : List ℕ → List ℕ → List ℕ → State → ℕ → List ℕ → Listing
+innerListing s nodes places state atom out =
+    let bytes : List ℕ = listed (decode s) (storeIn nodes places (state .nodes)) atom in
+    elim (eqb (innerListingRefusal s nodes places state atom out) 0) [
+      | true ↦ record { answer = record { refusal = 0; detail = 0; length = length bytes }; out = bytes ++ drop (length bytes) out }
+      | false ↦ record { answer = record { refusal = innerListingRefusal s nodes places state atom out; detail = 0; length = 0 }; out = out }
+    ]
