@@ -5,11 +5,11 @@
 //! passed numbers alone, reads every node as a function of the facts, and finds numbers by functions; full is judged
 //! by counting functions, as the document words it.
 
-mod answer;
+pub mod answer;
 mod bounds;
 mod build;
 mod by_hand;
-mod calls;
+pub mod calls;
 mod checks;
 mod close;
 mod count;
@@ -18,20 +18,24 @@ mod diagrams;
 mod fit;
 mod fit_checks;
 mod form;
-mod job;
-mod jobs;
-mod layers;
+pub mod given;
+pub mod job;
+pub mod jobs;
+pub mod layers;
+mod listing;
 mod meaning;
-mod memory;
-mod mutant;
-mod node;
+pub mod memory;
+pub mod mutant;
+pub mod node;
 mod numbering;
-mod programs;
+pub mod programs;
+mod question;
 mod run;
 mod session;
 mod store;
 mod tables;
 mod watch;
+mod weights;
 
 use calls::Engine;
 pub use checks::check;

@@ -38,7 +38,7 @@ pub fn any_shape(random: &mut Random) -> Shape {
 }
 
 /// Once the product has no room for more, facts of 1/0 and 0/1 keep it as it is.
-fn weights(facts: usize, random: &mut Random) -> Vec<(u16, u16)> {
+pub fn weights(facts: usize, random: &mut Random) -> Vec<(u16, u16)> {
     let mut total: u64 = 1;
     let mut weights = Vec::new();
     for _ in 0..facts {

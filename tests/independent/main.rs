@@ -13,6 +13,12 @@
 //!     target/tests/independent runs-output
 //!
 //! write the input of the test programs `builds` and `runs` and what they must print, and test nothing.
+//!
+//!     target/tests/independent sessions
+//!     target/tests/independent --long SEED [SESSIONS]
+//!
+//! The first makes only the tests of whole sessions through the boundary, at scale 1. The second
+//! plays sessions through the boundary until stopped, or so many, and prints how far it is and all that differs.
 
 mod boundary;
 mod builds;
@@ -23,6 +29,7 @@ mod damage;
 mod encode;
 mod engine;
 mod file;
+mod host;
 mod legal;
 mod model;
 mod mutants;
@@ -31,6 +38,7 @@ mod paper;
 mod program;
 mod random;
 mod report;
+mod sessions;
 mod shapes;
 mod totals;
 mod worked;
@@ -46,6 +54,8 @@ fn main() {
         Some("builds-output") => print(builds::output().as_bytes()),
         Some("runs-input") => print(&engine::input()),
         Some("runs-output") => print(engine::output().as_bytes()),
+        Some("--long") => long(),
+        Some("sessions") => only_sessions(),
         None => test(1),
         Some(text) => test(scale(text)),
     }
@@ -70,14 +80,26 @@ fn test(scale: u64) {
     }
     report.add("corpus: every refusal met", met.every_answer());
     report_mutants(&mut report, met);
+    sessions::check(&mut report, scale);
     exit(if report.finish() { 0 } else { 1 });
 }
 
 fn scale(text: &str) -> u64 {
     text.parse().unwrap_or_else(|_| {
-        eprintln!("the scale is a whole number, not {text}");
+        eprintln!("a whole number is needed, not {text}");
         exit(2);
     })
+}
+
+fn only_sessions() {
+    let mut report = Report::default();
+    sessions::check(&mut report, 1);
+    exit(if report.finish() { 0 } else { 1 });
+}
+
+fn long() {
+    let number = |at: usize, default: u64| std::env::args().nth(at).map_or(default, |text| scale(&text));
+    exit(if sessions::long(number(2, 1), number(3, u64::MAX)) { 0 } else { 1 });
 }
 
 fn check_self(report: &mut Report) {

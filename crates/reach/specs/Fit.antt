@@ -1,6 +1,6 @@
 -- "A later call's file, store and passed numbers fit together when the file passes 1 to 11, the node count is F to N, facts' nodes and
--- places are as loaded, every node obeys the rules above with its sides numbered below it, unused entries and places are 0, the other places
--- name nodes in use, and the layer in work has atoms or the run is finished." As a test that computes; Laws/Fit says that it is this.
+-- places are as loaded, every node obeys the rules above with its sides numbered below it, unused entries and places are 0, the other
+-- places name nodes in use, and the layer in work has atoms or the run is finished." As a test that computes; Laws/Fit says that it is this.
 use mathlib.Core.Bool.{Bool, true, false, not, _&&_, _||_}
 use mathlib.Core.List.{List}
 use Prim.Native.Nat.{ℕ, _+_, min}

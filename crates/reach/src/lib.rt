@@ -9,7 +9,7 @@ mod stepping;
 
 use format::Verdict;
 ghost use mathlib.Core.Path.{_≡_};
-ghost use Rattle.reach.specs.Calls.{ours, StepIs, RanIs, WeightIs, ListIs};
+ghost use Rattle.reach.specs.Calls.{ours, StepIs, RanIs, WeightIs, ShareIs, ListIs};
 
 // reach_state
 #[repr(C)]
@@ -204,6 +204,35 @@ pub extern "C" fn reach_weight(
     }
     let room = fit::room(nodes.len());
     questioning::weight(file, &nodes[..room], &places[..544], state, atom, numbers)
+}
+
+// The weight of an atom of a finished run given evidence.
+#[no_mangle]
+pub extern "C" fn reach_given(
+    file: &[u8],
+    nodes: &mut [u32],
+    places: &[u16],
+    state: State,
+    atom: u32,
+    evidence: &[u16],
+    numbers: &mut [u64],
+) -> Shared
+    ensures { λ r. ⌜ ShareIs (ours .given (now (file .entry)) (now (nodes .entry)) (now (places .entry)) state atom (now (evidence .entry))
+        (now (numbers .entry))) (now (nodes .entry)) (now (nodes .exit)) (now (numbers .exit)) r ⌝ }
+{
+    if !fit::fits(file, nodes, places, state.layer, state.nodes) {
+        return questioning::no_share(36);
+    }
+    let room = fit::room(nodes.len());
+    questioning::given(
+        file,
+        &mut nodes[..room],
+        &places[..544],
+        state,
+        atom,
+        evidence,
+        numbers,
+    )
 }
 
 // The listing of an atom of a finished run.

@@ -51,3 +51,28 @@ impl Ran {
 pub fn plain(number: u32) -> Refusal {
     Refusal { number, detail: 0 }
 }
+
+/// Of weight so far.
+#[derive(Clone, Copy, Debug, PartialEq)]
+pub struct Weighed {
+    pub refusal: u32,
+    pub detail: u32,
+    pub weight: u64,
+}
+
+/// Of weight given evidence.
+#[derive(Clone, Copy, Debug, PartialEq)]
+pub struct Shared {
+    pub refusal: u32,
+    pub detail: u32,
+    pub both: u64,
+    pub evidence: u64,
+}
+
+#[derive(Clone, Copy, Debug, PartialEq)]
+pub struct Listed {
+    pub refusal: u32,
+    pub detail: u32,
+    /// Bytes written.
+    pub length: u64,
+}

@@ -52,7 +52,10 @@ impl Engine {
 
     /// 36 comes first in every later call.
     pub fn opened(&self, file: &[u8], lent: &Lent, state: State) -> Result<(Program, Store), Refusal> {
-        let program = fitting(file, lent, state).ok_or(plain(36))?;
+        if self.is(Mutant::BadFileOwnNumber) {
+            decode(file)?;
+        }
+        let program = fitting(file, lent, state, self.mutant).ok_or(plain(36))?;
         let mut store = self.store(&program, lent);
         store.read(lent, state);
         Ok((program, store))

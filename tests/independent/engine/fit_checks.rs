@@ -3,6 +3,7 @@
 use super::calls::Engine;
 use super::job::{close, run, update, Job};
 use super::memory::{Lent, State, FINISHED};
+use super::mutant::Mutant;
 use super::session::Session;
 use super::{fit, node::Node};
 use crate::encode::encode;
@@ -68,7 +69,7 @@ pub fn by_hand() -> Checked {
     for (what, change) in FITS {
         let mut session = finished(&job);
         change(&mut session.lent, &mut session.state);
-        same(what, fit::fitting(session.file, &session.lent, session.state).is_some(), true)?;
+        same(what, fit::fitting(session.file, &session.lent, session.state, Mutant::None).is_some(), true)?;
     }
     for (what, change) in FITS_NOT {
         let mut session = finished(&job);

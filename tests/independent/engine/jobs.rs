@@ -3,8 +3,8 @@
 mod chains;
 mod chance;
 mod damaged;
-mod drawn;
-mod large;
+pub mod drawn;
+pub mod large;
 mod numbers;
 mod odd;
 mod s;
@@ -44,7 +44,7 @@ pub fn input(jobs: &[Job]) -> Vec<u8> {
 }
 
 /// Nodes in use after a run in a store of the largest size.
-fn needed(program: &Program) -> usize {
+pub fn needed(program: &Program) -> usize {
     let job = Job::new(LARGEST, &[run(u32::MAX)], program);
     let mut session = Session::load(&job, Engine::HONEST).expect("room for the facts");
     session.call(&job.calls[0]);

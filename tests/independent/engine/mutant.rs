@@ -138,6 +138,100 @@ pub enum Mutant {
     FullBeforeSpent,
     FullCounted,
     FullTakesRunBack,
+
+    // "Every later call: 36 first." "A later call's file, store and passed numbers fit together when ..."
+    /// A later call gives a bad file its own number.
+    BadFileOwnNumber,
+    ThirteenBeforeThirtySix,
+    // "... the node count is F to N, facts' nodes and places are as loaded ..."
+    LastEntryUnused,
+    FactNodesUntested,
+    FactPlacesUntested,
+    // "... every node obeys the rules above with its sides numbered below it ..."
+    EqualNodesTaken,
+    EqualSidesTaken,
+    FactsNeedNotRise,
+    SidesAbove,
+    UnknownFactsTaken,
+    // "... unused entries and places are 0 ..."
+    UnusedWordsUntested,
+    UnusedPlacesUntested,
+    /// Entries from 4,096 on must be 0, too.
+    BeyondTested,
+    // "... the other places name nodes in use ..."
+    AlwaysNotInUse,
+    LastNodeNotInUse,
+    OnePastInUse,
+    // "... and the layer in work has atoms or the run is finished."
+    AnyLayerFits,
+    ZeroIsFinished,
+    LayerInTwoBytes,
+    // "Fewer than 544 atom places."
+    ShortPlacesTaken,
+
+    // "Weight so far of any atom comes from its present diagram."
+    WeightNeedsFinish,
+    WeightOfLayersInWorkOnly,
+    FactsHaveNoWeight,
+    // "Forgetting facts that a diagram skips."
+    SkippedFactsForgotten,
+    WeightInFourBytes,
+
+    // "Both need N + 2 working numbers, which are 0 after an answer or refusal 20; numbers beyond keep their values."
+    OneNumberLess,
+    OneNumberMore,
+    NumbersByNodesInUse,
+    NumbersByLentLength,
+    NumbersKept,
+    AllNumbersCleared,
+    NodesInUseCleared,
+    NumbersKeptAtTwenty,
+    NumbersClearedAtRefusal,
+
+    // "Weight so far: 13, 19. Given evidence: 17, 18, 13, 19, 12, 20."
+    NineteenBeforeThirteen,
+    GivenUnfinished,
+    EighteenBeforeSeventeen,
+    ThirteenBeforeEighteen,
+    NineteenBeforeEighteen,
+    TwelveUnseenInGiven,
+    TwentyBeforeTwelve,
+    // "Over 64 evidence literals." "No such atom." "Evidence of weight 0."
+    SixtyFourTooMany,
+    SixtyFiveTaken,
+    UnknownEvidenceTaken,
+    UnknownEvidenceNamed,
+    TwentyByDiagram,
+    TwentyByBoth,
+
+    // "Starting at always, it conjoins the evidence literals in order, built as in an update, then the query atom, and
+    // takes those nodes back."
+    EvidenceReversed,
+    EvidenceUpToNever,
+    EvidenceNegationsUnbuilt,
+    EvidencePartsUnbuilt,
+    QueryUnbuilt,
+    QueryBeforeEvidence,
+    GivenKeepsNodes,
+    // "Two numbers, not reduced."
+    SharesReduced,
+
+    // "Listing: 17, 13, 21." "Listing longer than the output."
+    ListedUnfinished,
+    ThirteenBeforeSeventeen,
+    TwentyOneBeforeThirteen,
+    OneByteShortTaken,
+    OneByteMoreNeeded,
+    LengthAtTwentyOne,
+    // "Leaves all lent memory as it was." "Bytes beyond are kept."
+    PartWritten,
+    RestOfOutputCleared,
+    // "Numbers from 2, children before parents, low side first, each node once."
+    HighSideListedFirst,
+    ParentsListedFirst,
+    WholeStoreListed,
+    ConstantsListed,
+    RootCountedFromZero,
 }
 
 pub fn all() -> Vec<Mutant> {
@@ -161,4 +255,48 @@ pub fn all() -> Vec<Mutant> {
     let updates = [&order[..], &sums, &built, &numbers, &full, &memory].concat();
     [&updates[..], &starts, &atoms, &layers, &checks, &closings, &details, &rounds, &settled, &budgets, &outcomes]
         .concat()
+}
+
+/// Those of 36 and of questions, which no job shows: sessions do.
+pub fn asked() -> Vec<Mutant> {
+    [of_fitting(), of_weights(), of_listings()].concat()
+}
+
+fn of_fitting() -> Vec<Mutant> {
+    use Mutant::*;
+    let files = [BadFileOwnNumber, ThirteenBeforeThirtySix, LastEntryUnused, FactNodesUntested, FactPlacesUntested];
+    let nodes = [EqualNodesTaken, EqualSidesTaken, FactsNeedNotRise, SidesAbove, UnknownFactsTaken];
+    let unused =
+        [UnusedWordsUntested, UnusedPlacesUntested, BeyondTested, AlwaysNotInUse, LastNodeNotInUse, OnePastInUse];
+    let states = [AnyLayerFits, ZeroIsFinished, LayerInTwoBytes, ShortPlacesTaken];
+    [&files[..], &nodes, &unused, &states].concat()
+}
+
+fn of_weights() -> Vec<Mutant> {
+    use Mutant::*;
+    let weights =
+        [WeightNeedsFinish, WeightOfLayersInWorkOnly, FactsHaveNoWeight, SkippedFactsForgotten, WeightInFourBytes];
+    let room = [OneNumberLess, OneNumberMore, NumbersByNodesInUse, NumbersByLentLength];
+    let cleared = [NumbersKept, AllNumbersCleared, NodesInUseCleared, NumbersKeptAtTwenty, NumbersClearedAtRefusal];
+    let first = [
+        NineteenBeforeThirteen,
+        GivenUnfinished,
+        EighteenBeforeSeventeen,
+        ThirteenBeforeEighteen,
+        NineteenBeforeEighteen,
+    ];
+    let later = [TwelveUnseenInGiven, TwentyBeforeTwelve, SixtyFourTooMany, SixtyFiveTaken];
+    let evidence = [UnknownEvidenceTaken, UnknownEvidenceNamed, TwentyByDiagram, TwentyByBoth];
+    let built = [EvidenceReversed, EvidenceUpToNever, EvidenceNegationsUnbuilt, EvidencePartsUnbuilt];
+    let queries = [QueryUnbuilt, QueryBeforeEvidence, GivenKeepsNodes, SharesReduced];
+    [&weights[..], &room, &cleared, &first, &later, &evidence, &built, &queries].concat()
+}
+
+fn of_listings() -> Vec<Mutant> {
+    use Mutant::*;
+    let output =
+        [ListedUnfinished, ThirteenBeforeSeventeen, TwentyOneBeforeThirteen, OneByteShortTaken, OneByteMoreNeeded];
+    let kept = [LengthAtTwentyOne, PartWritten, RestOfOutputCleared];
+    let listed = [HighSideListedFirst, ParentsListedFirst, WholeStoreListed, ConstantsListed, RootCountedFromZero];
+    [&output[..], &kept, &listed].concat()
 }

@@ -1,0 +1,86 @@
+-- `reach_given` meets its contract: what fits is handed on in its used parts, and else the answer is 36 (Laws/Sharing).
+use borrow.Author.Needs.{needs}
+use Rattle.reach.specs.Laws.Questioning.{room-part, places-part, inner-asked}
+use Rattle.reach.specs.Laws.Sharing as laws
+use Rattle.reach.proofs.reach_given.Statement.{statement}
+use Rattle.reach.proofs.reach_given.Tie as tie
+
+fits-requires : tie.Need-fits-requires
+fits-requires c κs = search needs
+
+no-share-requires : tie.Need-no-share-requires
+no-share-requires c κs = search needs
+
+same-length : tie.Need-same-length
+same-length c = search needs
+
+returns : tie.Need-returns
+returns c =
+    let at-if = c .before in
+    let at-fits = at-if .before in
+    let start = at-fits .before .before .before .before .before .before .before in
+    laws.given-misfit (start .args .file .now) (start .args .nodes .now) (start .args .places .now) (start .args .state)
+    (at-fits .fits2 .ensures) (start .args .atom) (start .args .evidence .now) (start .args .numbers .now) (at-if .if1 .taken)
+    (c .no-share .ensures)
+
+room-requires : tie.Need-room-requires
+room-requires c κs = search needs
+
+slice-relend-prefix-given : tie.Need-slice-relend-prefix-given
+slice-relend-prefix-given c = search needs
+
+slice-aggregate-given : tie.Need-slice-aggregate-given
+slice-aggregate-given c =
+    let start = c .before .before .before .before .before .before .before .before .before .before in
+    room-part (start .args .nodes .now) (c .before .room .ensures)
+
+slice-aggregate-given-2 : tie.Need-slice-aggregate-given-2
+slice-aggregate-given-2 c =
+    let at-if = c .before .before .before in
+    let at-fits = at-if .before in
+    let start = at-fits .before .before .before .before .before .before .before in
+    places-part (start .args .file .now) (start .args .nodes .now) (start .args .places .now) (start .args .state)
+    (at-fits .fits2 .ensures) (at-if .if1 .left)
+
+given-requires : tie.Need-given-requires
+given-requires c κs =
+    let at-room = c .before .before .before in
+    let at-if = at-room .before in
+    let at-fits = at-if .before in
+    let start = at-fits .before .before .before .before .before .before .before in
+    inner-asked (start .args .file .now) (start .args .nodes .now) (start .args .places .now) (start .args .state)
+    (at-fits .fits2 .ensures) (at-if .if1 .left) (at-room .room .ensures)
+
+same-length-2 : tie.Need-same-length-2
+same-length-2 c = search needs
+
+same-length-3 : tie.Need-same-length-3
+same-length-3 c = search needs
+
+returns-2 : tie.Need-returns-2
+returns-2 c =
+    let at-given = c .before .before .before .before in
+    let at-room = at-given .before .before .before .before in
+    let at-if = at-room .before in
+    let at-fits = at-if .before in
+    let start = at-fits .before .before .before .before .before .before .before in
+    laws.given-host (start .args .file .now) (start .args .nodes .now) (start .args .places .now) (start .args .state)
+    (at-fits .fits2 .ensures) (start .args .atom) (start .args .evidence .now) (start .args .numbers .now) (at-if .if1 .left)
+    (at-room .room .ensures) _ (at-given .given .ensures)
+
+pub reach-given-spec : {M : Type 1} → statement M
+reach-given-spec =
+    tie.close
+    (tie.spec
+    fits-requires
+    no-share-requires
+    same-length
+    returns
+    room-requires
+    slice-relend-prefix-given
+    slice-aggregate-given
+    slice-aggregate-given-2
+    given-requires
+    same-length-2
+    same-length-3
+    returns-2)
