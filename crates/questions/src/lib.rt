@@ -1,4 +1,3 @@
-// Questions: weights and listings from the diagrams of a store (document 01, "Questions and listings").
+// Questions: weights from the diagrams of a store (document 01, "Questions and listings").
 pub mod given;
-pub mod listing;
 pub mod weights;

@@ -18,10 +18,10 @@ use Rattle.rounds.specs.Layers.{finishedLayer}
 use Rattle.rounds.specs.Load.{Loaded, loaded, loadFull, load as loadOf}
 use Rattle.rounds.specs.Run.{How, Finished, Spent, Full, Ran, run as runOf}
 use Rattle.rounds.specs.Calls.{Answer, after, refused, updateCall, closeCall}
-use Rattle.engine.specs.Calls.{storeIn}
-use Rattle.engine.specs.Answers.{wordsOf}
+use Rattle.building.specs.Calls.{storeIn}
+use Rattle.state.specs.Answers.{wordsOf}
 use Rattle.questions.specs.Questions.{weightSoFar, Given, share, noWeight, givenFull, given as givenOf, listed}
-use Rattle.reach.specs.Fit.{roomIn, wordsIn, placesIn, fitTogether}
+use Rattle.fitting.specs.Fit.{roomIn, wordsIn, placesIn, fitTogether}
 use Rattle.reach.specs.declared.Counts.{Counts}
 use Rattle.reach.specs.declared.State.{State}
 use Rattle.reach.specs.declared.Step.{Step}

@@ -1,30 +1,20 @@
 -- What the inner functions of the calls ask and answer: the same definitions, over the parts of the lent memory that are used.
-use mathlib.Core.Path.{_≡_}
 use mathlib.Core.Bool.{true, false, cond}
 use mathlib.Core.List.{List, _++_, map}
-use Prim.Native.Nat.{ℕ, _+_, _≤_}
+use Prim.Native.Nat.{ℕ, _+_}
 use lib.Dec.{eqb, ltb, leb}
 use lib.ListN.{length, drop}
 use Rattle.meaning.specs.Meaning.{atoms}
-use Rattle.format.specs.File.{F, D, literal, decode}
-use Rattle.format.specs.Laws.Accepted.{Passed}
+use Rattle.format.specs.File.{literal, decode}
 use Rattle.store.specs.Calls.{zeroed}
-use Rattle.engine.specs.Calls.{storeIn}
-use Rattle.engine.specs.Answers.{Fits}
-use Rattle.engine.specs.declared.How.{How}
-use Rattle.engine.specs.declared.How.the-variants as how
+use Rattle.building.specs.Calls.{storeIn}
+use Rattle.state.specs.Answers.{Fits}
+use Rattle.state.specs.declared.How.{How}
+use Rattle.state.specs.declared.How.the-variants as how
 use Rattle.questions.specs.Questions.{weightSoFar, Given, share, noWeight, givenFull, given as givenOf, listed}
 use Rattle.rounds.specs.Layers.{finishedLayer}
 use Rattle.reach.specs.Calls.{Weighing, Sharing, knows, Listing}
 use Rattle.reach.specs.declared.State.{State}
-
--- a passed file, its counts, and the used parts of the lent memory
-pub record FitAsked (s nodes places : List ℕ) (facts derived : ℕ) : Type 0 where
-  pub passed : Passed s
-  pub facts-are : facts ≡ F s
-  pub derived-are : derived ≡ D s
-  pub room : length nodes ≤ 4096
-  pub long : length places ≡ 544
 
 -- file, words, places and state fit together, as the engine asks it
 abbrev pub InnerFits : List ℕ → List ℕ → List ℕ → State → Type 0

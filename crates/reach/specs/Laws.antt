@@ -1,9 +1,5 @@
--- FitParts reads the parts of the test of "fit together" as statements, Fit the whole; FitCode is what its functions find. Stepping says
--- what loading, update, close and run answer over the parts of the lent memory and over the whole, Questioning the same of weights and
--- listings, Sharing of weights given evidence.
-pub mod FitParts
-pub mod Fit
-pub mod FitCode
+-- Stepping says what loading, update, close and run answer over the parts of the lent memory and over the whole, Questioning the same of
+-- weights and listings, Sharing of weights given evidence.
 pub mod Stepping
 pub mod Questioning
 pub mod Sharing

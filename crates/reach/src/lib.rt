@@ -3,7 +3,6 @@
 // Each call tests what 01 says it tests, in 01's order, hands the parts of the lent memory that are used to the crate that does the work,
 // and gives its answer in C's numbers (specs/Calls.antt).
 
-mod fit;
 mod questioning;
 mod stepping;
 
@@ -114,7 +113,7 @@ pub extern "C" fn reach_load(file: &[u8], nodes: &mut [u32], places: &mut [u16])
             if places.len() < 544 {
                 return stepping::no_load(36, 0);
             }
-            let room = fit::room(nodes.len());
+            let room = fitting::room(nodes.len());
             stepping::load(file, &mut nodes[..room], &mut places[..544])
         }
         Verdict::Refused(why) => stepping::no_load(
@@ -136,10 +135,10 @@ pub extern "C" fn reach_update(
     ensures { λ r. ⌜ StepIs (ours .update (now (file .entry)) (now (nodes .entry)) (now (places .entry)) state atom)
         (now (nodes .exit)) (now (places .exit)) r ⌝ }
 {
-    if !fit::fits(file, nodes, places, state.layer, state.nodes) {
+    if !fitting::fits(file, nodes, places, state.layer, state.nodes) {
         return stepping::refused(36, 0, state);
     }
-    let room = fit::room(nodes.len());
+    let room = fitting::room(nodes.len());
     stepping::update(file, &mut nodes[..room], &mut places[..544], state, atom)
 }
 
@@ -154,10 +153,10 @@ pub extern "C" fn reach_close(
     ensures { λ r. ⌜ StepIs (ours .close (now (file .entry)) (now (nodes .entry)) (now (places .entry)) state)
         (now (nodes .exit)) (now (places .exit)) r ⌝ }
 {
-    if !fit::fits(file, nodes, places, state.layer, state.nodes) {
+    if !fitting::fits(file, nodes, places, state.layer, state.nodes) {
         return stepping::refused(36, 0, state);
     }
-    let room = fit::room(nodes.len());
+    let room = fitting::room(nodes.len());
     stepping::close(file, &mut nodes[..room], &places[..544], state)
 }
 
@@ -173,7 +172,7 @@ pub extern "C" fn reach_run(
     ensures { λ r. ⌜ RanIs (ours .run (now (file .entry)) (now (nodes .entry)) (now (places .entry)) state budget)
         (now (nodes .exit)) (now (places .exit)) r ⌝ }
 {
-    if !fit::fits(file, nodes, places, state.layer, state.nodes) {
+    if !fitting::fits(file, nodes, places, state.layer, state.nodes) {
         return Ran {
             refusal: 36,
             detail: 0,
@@ -182,7 +181,7 @@ pub extern "C" fn reach_run(
             updates: 0,
         };
     }
-    let room = fit::room(nodes.len());
+    let room = fitting::room(nodes.len());
     stepping::run(file, &mut nodes[..room], &mut places[..544], state, budget)
 }
 
@@ -199,10 +198,10 @@ pub extern "C" fn reach_weight(
     ensures { λ r. ⌜ WeightIs (ours .weight (now (file .entry)) (now (nodes .entry)) (now (places .entry)) state atom
         (now (numbers .entry))) (now (numbers .exit)) r ⌝ }
 {
-    if !fit::fits(file, nodes, places, state.layer, state.nodes) {
+    if !fitting::fits(file, nodes, places, state.layer, state.nodes) {
         return questioning::no_weight(36);
     }
-    let room = fit::room(nodes.len());
+    let room = fitting::room(nodes.len());
     questioning::weight(file, &nodes[..room], &places[..544], state, atom, numbers)
 }
 
@@ -220,10 +219,10 @@ pub extern "C" fn reach_given(
     ensures { λ r. ⌜ ShareIs (ours .given (now (file .entry)) (now (nodes .entry)) (now (places .entry)) state atom (now (evidence .entry))
         (now (numbers .entry))) (now (nodes .entry)) (now (nodes .exit)) (now (numbers .exit)) r ⌝ }
 {
-    if !fit::fits(file, nodes, places, state.layer, state.nodes) {
+    if !fitting::fits(file, nodes, places, state.layer, state.nodes) {
         return questioning::no_share(36);
     }
-    let room = fit::room(nodes.len());
+    let room = fitting::room(nodes.len());
     questioning::given(
         file,
         &mut nodes[..room],
@@ -248,9 +247,9 @@ pub extern "C" fn reach_listing(
     ensures { λ r. ⌜ ListIs (ours .listing (now (file .entry)) (now (nodes .entry)) (now (places .entry)) state atom
         (now (out .entry))) (now (out .exit)) r ⌝ }
 {
-    if !fit::fits(file, nodes, places, state.layer, state.nodes) {
+    if !fitting::fits(file, nodes, places, state.layer, state.nodes) {
         return questioning::no_listing(36);
     }
-    let room = fit::room(nodes.len());
+    let room = fitting::room(nodes.len());
     questioning::listing(file, &nodes[..room], &places[..544], state, atom, out)
 }

@@ -2,6 +2,7 @@ pub mod Layers
 pub mod Load
 pub mod Close
 pub mod Run
+pub mod Budget
 pub mod Calls
 pub mod Fit
 pub mod Stages

@@ -4,15 +4,14 @@ use mathlib.Core.Path.{_≡_}
 use mathlib.Core.List.{List}
 use Prim.Native.Nat.{ℕ}
 use Rattle.format.specs.Bytes.{Bytes}
-use Rattle.engine.specs.Answers.{AtomAsked, LoadAsked, LoadDone, UpdateDone, CloseDone, RunDone}
-use Rattle.engine.specs.Laws.Fits.{fits-loaded, fits-updated, fits-full, fits-words, fits-closed, fits-ran}
-use Rattle.engine.specs.Laws.Running.{passed-layered}
-use Rattle.engine.specs.declared.State.{State}
-use Rattle.engine.specs.declared.Step.{Step}
-use Rattle.engine.specs.declared.Step.the-variants as step
-use Rattle.engine.specs.declared.Closed.{Closed}
-use Rattle.engine.specs.declared.Closed.the-variants as shut
-use Rattle.engine.specs.declared.Ran as declared-ran
+use Rattle.state.specs.Answers.{AtomAsked, LoadAsked, LoadDone, UpdateDone, CloseDone, RunDone}
+use Rattle.state.specs.Laws.Fits.{passed-layered, fits-loaded, fits-updated, fits-full, fits-words, fits-closed, fits-ran}
+use Rattle.state.specs.declared.State.{State}
+use Rattle.state.specs.declared.Step.{Step}
+use Rattle.state.specs.declared.Step.the-variants as step
+use Rattle.state.specs.declared.Closed.{Closed}
+use Rattle.state.specs.declared.Closed.the-variants as shut
+use Rattle.state.specs.declared.Ran as declared-ran
 use Rattle.runs.specs.Ready.{Ready}
 
 -- after loading, since a file that has passed its check is layered

@@ -4,8 +4,8 @@ use mathlib.Core.List.{List}
 use Prim.Native.Nat.{ℕ}
 use Rattle.meaning.specs.Meaning.{Layered}
 use Rattle.format.specs.File.{decode}
-use Rattle.engine.specs.Answers.{Fits}
-use Rattle.engine.specs.declared.State.{State}
+use Rattle.state.specs.Answers.{Fits}
+use Rattle.state.specs.declared.State.{State}
 
 -- ready for the next call
 pub record Ready (s nodes places : List ℕ) (state : State) : Type 0 where

@@ -3,18 +3,18 @@
 //
 // A job: N (2 bytes), the number of calls (2 bytes), the file's length (4 bytes), the calls, the file. A call: what (1 byte: 0 run,
 // 1 update, else close) and its budget or atom (4 bytes).
-use engine::Closed;
-use engine::How;
-use engine::State;
-use engine::Step;
 use format::Verdict;
 use format::bytes::u8_at;
 use format::bytes::u16_at;
 use format::bytes::u32_at;
 use libc::STDIN_FILENO;
 use libc::STDOUT_FILENO;
+use state::Closed;
+use state::How;
+use state::State;
+use state::Step;
 ghost use Prim.Native.Nat.{_≤_};
-ghost use Rattle.engine.specs.Answers.{AtomAsked, LoadAsked};
+ghost use Rattle.state.specs.Answers.{AtomAsked, LoadAsked};
 ghost use Rattle.runs.specs.Ready.{Ready};
 
 fn print(n: u64) {
@@ -97,7 +97,7 @@ fn update(file: &[u8], nodes: &mut [u32], places: &mut [u16], state: State, atom
         say(b"refused 14 0\n");
         return state;
     }
-    if engine::layers::layer_of(file, facts, derived, a) != state.layer {
+    if state::layers::layer_of(file, facts, derived, a) != state.layer {
         say(b"refused 14 0\n");
         return state;
     }

@@ -15,6 +15,7 @@ use Rattle.meaning.specs.Meaning.{Program, atoms, Layered}
 use Rattle.update.specs.Update.{Store}
 use Rattle.update.specs.Laws.Held.{present}
 use Rattle.rounds.specs.Layers.{finishedLayer, nextLayer, hasAtoms, atomsFrom, atomsOf}
+use Rattle.rounds.specs.Budget.{layerCost, cost}
 use Rattle.rounds.specs.Run.{How, Finished, Spent, Full, Ran, run}
 use Rattle.rounds.specs.Stages.{Rounds, none, round, closing, Ends, RunAs}
 use Rattle.rounds.specs.Laws.Sums.{sum-mono, sum-more, sum-none, sum-one, sum-add, sum-square}
@@ -24,15 +25,6 @@ use Rattle.rounds.specs.Laws.Close.{close-only}
 use Rattle.rounds.specs.Laws.Stages.{run-as}
 use Rattle.rounds.specs.Laws.Reached.{Standing, standing-each, standing-closed, standing-rounds}
 use Rattle.rounds.specs.Laws.Settling.{Settles, standing-settles, settles-less, settled-round}
-
--- n × (n + 1) for the n atoms of layer k
-abbrev pub layerCost : Program → ℕ → ℕ
-layerCost P k = length (atomsOf P k) * (length (atomsOf P k) + 1)
-
--- "the sum of n × (n + 1) over the remaining layers of n atoms": from layer k on
-unfoldable pub cost : Program → ℕ → ℕ
-unfolding sum upto
-cost P k = sum (upto 256 (λ j. cond (leb k j) (layerCost P j) 0))
 
 -- ---- the cost of the layers from k on
 

@@ -1,0 +1,3 @@
+pub mod Stamps
+pub mod Running
+pub mod Laws
