@@ -48,7 +48,7 @@ pub fn group(kind: Kind, numbers: std::ops::Range<u64>, side: &dyn Side, met: &m
     first.map_or(Ok(met.calls - before), Err)
 }
 
-/// A mutant that reads what does not fit may fall over; that is a difference, too, and needs no word on the screen.
+/// A mutant that reads what does not fit may fall over in a session; the screen need not say so.
 fn check_mutants(report: &mut Report) {
     let hook = take_hook();
     set_hook(Box::new(|_| {}));
@@ -70,9 +70,9 @@ fn shown_by(mutant: Mutant) -> Option<String> {
     for (kind, number, _) in sessions.filter(|(_, number, sessions)| number < sessions) {
         let played = catch_unwind(AssertUnwindSafe(|| play(kind, number, &engine, &mut Met::default())));
         match played {
-            Ok(Ok(())) => {}
             Ok(Err(_)) => return Some(format!("{kind:?} {number}")),
-            Err(_) => return Some(format!("{kind:?} {number}, where it fell over")),
+            // A mutant that falls over shows nothing: only a difference does.
+            Ok(Ok(())) | Err(_) => {}
         }
     }
     None
