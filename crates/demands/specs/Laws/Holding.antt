@@ -1,0 +1,208 @@
+-- Memory that holds a store: what a call leaves in hand, and that what fits together is such memory.
+use mathlib.Core.Path.{_≡_, refl, sym, ap, subst, _∙_}
+use mathlib.Core.Bool.{true, false}
+use mathlib.Core.List.{List, [], _∷_, _++_, map, append-nil}
+use Prim.Native.Nat.{ℕ, _-_, _≤_, _<_, min}
+use native.Mathlib.Omega.{arith}
+use native.Mathlib.Decide.{decLt}
+use lib.Dec.{T, leb, le→leb}
+use lib.ListN.{
+  length,
+  getD,
+  take,
+  drop,
+  replicate,
+  length-append,
+  length-drop,
+  length-map,
+  length-replicate,
+  length-take,
+  List·getD-map,
+  drop-of-length-le,
+  take-append-drop,
+}
+use lib.Seq.{take-all, take-at, drop-at, ext-getD}
+use borrow.Author.Tests.{not-false}
+use Rattle.meaning.specs.Laws.Tests.{T-true}
+use Rattle.format.specs.File.{decode}
+use Rattle.format.specs.Refusals.{verdict}
+use Rattle.format.specs.Laws.Accepted.{Passed}
+use Rattle.format.specs.Laws.Passing.{passed-accepted}
+use Rattle.diagram.specs.Listing.{Node}
+use Rattle.store.specs.Store.{pack, unpack, nodesIn, nowhere, Sound}
+use Rattle.store.specs.Laws.Nodes.{unpack-pack, nodesIn-length}
+use Rattle.update.specs.Update.{Store}
+use Rattle.rounds.specs.Fit.{Fit}
+use Rattle.state.specs.Answers.{wordsOf}
+use Rattle.state.specs.Laws.Fits.{fits-lent, lent-holds}
+use Rattle.fitting.specs.Fit.{wordsIn, placesIn, passes, storeFits, fitTogether}
+use Rattle.reach.specs.Calls.{fits}
+use Rattle.fitting.specs.Laws.Fit.{fits-store, fits-inner, fits-long}
+use Rattle.fitting.specs.Laws.FitParts.{row-all}
+use Rattle.demands.specs.Hand.{Hand, room, store, unfit}
+
+-- the memory of h with this store in it, and its layer in work
+abbrev pub holding : Hand → ℕ → Store → Hand
+holding h k st = record {
+  nodes = wordsOf (room h) st ++ drop 4096 (h .nodes);
+  places = st .places ++ drop 544 (h .places);
+  state = record { layer = k; nodes = length (st .nodes) };
+}
+
+-- a store that fits the file and N places
+pub record Held (s : List ℕ) (N k : ℕ) (st : Store) : Type 0 where
+  pub passed : Passed s
+  pub fit : Fit (decode s) k st
+  pub used : length (st .nodes) ≤ N
+
+-- ---- the parts of the memory
+
+-- the memory holds the store in front, and beyond it what it held
+pub record Filled (h : Hand) (k : ℕ) (st : Store) : Type 0 where
+  pub words : wordsIn (holding h k st .nodes) ≡ wordsOf (room h) st
+  pub nodes-beyond : drop 4096 (holding h k st .nodes) ≡ drop 4096 (h .nodes)
+  pub nodes-long : length (holding h k st .nodes) ≡ length (h .nodes)
+  pub places-are : placesIn (holding h k st .places) ≡ st .places
+  pub places-beyond : drop 544 (holding h k st .places) ≡ drop 544 (h .places)
+  pub places-long : length (holding h k st .places) ≡ length (h .places)
+
+-- a front of a list's first n entries, with the rest of the list
+record Front (n : ℕ) (xs ys : List ℕ) : Type 0 where
+  front : take n (xs ++ drop n ys) ≡ xs
+  beyond : drop n (xs ++ drop n ys) ≡ drop n ys
+  long : length (xs ++ drop n ys) ≡ length ys
+
+front-of : (n : ℕ) (xs ys : List ℕ) → length xs ≡ min (length ys) n → Front n xs ys
+front-of n xs ys e =
+    let sum : length (xs ++ drop n ys) ≡ length ys = omega (arith, length-append xs (drop n ys), length-drop n ys) in
+    elim (decLt (length ys) n) [
+      | yes lt ↦
+          let near : length ys ≤ n = omega arith in
+          let few : length xs ≤ n = omega arith in
+          let past : drop n ys ≡ [] = drop-of-length-le ys near in
+          let whole : xs ++ drop n ys ≡ xs = ap (λ l. xs ++ l) past ∙ append-nil xs in
+          record {
+            front = ap (take n) whole ∙ take-all n xs few;
+            beyond = ap (drop n) whole ∙ drop-of-length-le xs few ∙ sym past;
+            long = sum;
+          }
+      | no g ↦
+          let full : length xs ≡ n = omega arith in
+          record { front = take-at xs (drop n ys) n full; beyond = drop-at xs (drop n ys) n full; long = sum }
+    ]
+
+words-size : (N : ℕ) (st : Store) → length (st .nodes) ≤ N → length (wordsOf N st) ≡ N
+words-size N st used =
+    omega (
+      arith,
+      length-append (map pack (st .nodes)) (replicate (N - length (st .nodes)) 0),
+      length-map (st .nodes) pack,
+      length-replicate {A = ℕ} (N - length (st .nodes)) 0,
+    )
+
+pub holding-filled : {h : Hand} {k : ℕ} {st : Store} → 544 ≤ length (h .places) → length (st .nodes) ≤ room h → length (st .places) ≡ 544 →
+    Filled h k st
+holding-filled {h} {k} {st} long used all =
+    let w = front-of 4096 (wordsOf (room h) st) (h .nodes) (words-size (room h) st used) in
+    let p = front-of 544 (st .places) (h .places) (omega arith) in
+    record {
+      words = w .front;
+      nodes-beyond = w .beyond;
+      nodes-long = w .long;
+      places-are = p .front;
+      places-beyond = p .beyond;
+      places-long = p .long;
+    }
+
+-- ---- the store in it
+
+-- the nodes of a sound store are unpacked as they were packed, since their sides fit 13 bits
+unpacked : {n : ℕ} (ns : List Node) → Sound n ns → length ns ≤ 4096 → map unpack (map pack ns) ≡ ns
+unpacked ns s le =
+    let packed : length (map pack ns) ≡ length ns = length-map ns pack in
+    let len : length (map unpack (map pack ns)) ≡ length ns = length-map (map pack ns) unpack ∙ packed in
+    ext-getD nowhere (map unpack (map pack ns)) ns len (λ i lt.
+    let h : i < length ns = omega arith in
+    let low = s .low-below i h in
+    let high = s .high-below i h in
+    List·getD-map unpack (map pack ns) i 0 ∙ ap unpack (List·getD-map pack ns i nowhere) ∙
+    unpack-pack (getD ns i nowhere) (omega arith) (omega arith))
+
+-- the store in hand is the one that was put there
+pub holding-store : {F : ℕ} {h : Hand} {k : ℕ} {st : Store} → Filled h k st → Sound F (st .nodes) → length (st .nodes) ≤ room h →
+    store (holding h k st) ≡ st
+holding-store {h = h} {st = st} f sound used =
+    let n : ℕ = length (st .nodes) in
+    let front : List ℕ = map pack (st .nodes) in
+    let same : nodesIn (wordsIn (wordsOf (room h) st ++ drop 4096 (h .nodes))) n ≡ st .nodes =
+    ap (λ l. nodesIn l n) (f .words) ∙ ap (map unpack) (take-at front (replicate (room h - n) 0) n (length-map (st .nodes) pack)) ∙
+    unpacked (st .nodes) sound (omega arith) in
+    λ i. record { nodes = same i; places = f .places-are i }
+
+-- ---- it fits together
+
+-- it is the store in hand, and fits together with the file
+pub record Holds (s : List ℕ) (h : Hand) (k : ℕ) (st : Store) : Type 0 where
+  pub store-is : store (holding h k st) ≡ st
+  pub room-is : room (holding h k st) ≡ room h
+  pub fits : unfit s (holding h k st) ≡ false
+  pub again : (j : ℕ) (st₁ : Store) → holding (holding h k st) j st₁ ≡ holding h j st₁
+
+-- the test passes, since its parts do
+filled-fits : {s : List ℕ} {h : Hand} {k : ℕ} {st : Store} → Filled h k st → store (holding h k st) ≡ st → 544 ≤ length (h .places) →
+    Held s (room h) k st → fits s (holding h k st .nodes) (holding h k st .places) (holding h k st .state) ≡ true
+unfolding fitTogether
+filled-fits {s} {h} {k} {st} f is long held =
+    let n : ℕ = length (st .nodes) in
+    let ws : List ℕ = wordsIn (holding h k st .nodes) in
+    let ps : List ℕ = placesIn (holding h k st .places) in
+    let size : length ws ≡ room h = ap length (f .words) ∙ words-size (room h) st (held .used) in
+    let used : n ≤ length ws = omega (arith, held .used) in
+    let unused : drop n ws ≡ replicate (length ws - n) 0 =
+    ap (drop n) (f .words) ∙ drop-at (map pack (st .nodes)) (replicate (room h - n) 0) n (length-map (st .nodes) pack) ∙ rw size refl in
+    let many : 544 ≤ length (holding h k st .places) = omega (arith, f .places-long) in
+    let stored : storeFits (decode s) ws ps k n ≡ true =
+    fits-store (decode s) ws ps k n (ap length (f .places-are) ∙ held .fit .long)
+    (record { used = used; unused = unused; fit = subst (λ x. Fit (decode s) k x) (sym is) (held .fit) }) in
+    let passing : T (passes (verdict s)) = rw (passed-accepted (held .passed)) tt in
+    T-true _ (row-all (passes (verdict s)) (leb 544 (length (holding h k st .places)) ∷ storeFits (decode s) ws ps k n ∷ [])
+    (passing, (le→leb _ _ many, (rw stored tt, tt))))
+
+pub holding-holds : {s : List ℕ} {h : Hand} {k : ℕ} {st : Store} → 544 ≤ length (h .places) → Held s (room h) k st → Holds s h k st
+holding-holds {s} {h} {k} {st} long held =
+    let f : Filled h k st = holding-filled long (held .used) (held .fit .long) in
+    let is : store (holding h k st) ≡ st = holding-store f (held .fit .sound) (held .used) in
+    let same : room (holding h k st) ≡ room h = ap (λ n. min n 4096) (f .nodes-long) in
+    record {
+      store-is = is;
+      room-is = same;
+      fits = rw (filled-fits f is long held) refl;
+      again = λ j st₁ i. record {
+        nodes = wordsOf (same i) st₁ ++ f .nodes-beyond i;
+        places = st₁ .places ++ f .places-beyond i;
+        state = record { layer = j; nodes = length (st₁ .nodes) };
+      };
+    }
+
+-- what fits together holds a store that fits
+pub record InHand (s : List ℕ) (h : Hand) : Type 0 where
+  pub held : Held s (room h) (h .state .layer) (store h)
+  pub is : h ≡ holding h (h .state .layer) (store h)
+  pub long : 544 ≤ length (h .places)
+
+pub in-hand : {s : List ℕ} {h : Hand} → unfit s h ≡ false → InHand s h
+in-hand {s} {h} e =
+    let fit : fits s (h .nodes) (h .places) (h .state) ≡ true = not-false _ e in
+    let f = fits-inner s (h .nodes) (h .places) (h .state .layer) (h .state .nodes) fit in
+    let w = lent-holds (fits-lent f) in
+    let size : length (store h .nodes) ≡ h .state .nodes = nodesIn-length (wordsIn (h .nodes)) (h .state .nodes) (f .used) in
+    let words : length (wordsIn (h .nodes)) ≡ room h = omega (arith, length-take 4096 (h .nodes)) in
+    let nodes : h .nodes ≡ wordsOf (room h) (store h) ++ drop 4096 (h .nodes) =
+    sym (take-append-drop 4096 (h .nodes)) ∙
+    ap (λ l. l ++ drop 4096 (h .nodes)) (w .words ∙ ap (λ N. wordsOf N (store h)) words) in
+    let places : h .places ≡ store h .places ++ drop 544 (h .places) = sym (take-append-drop 544 (h .places)) in
+    record {
+      held = record { passed = f .passed; fit = f .fit; used = omega (arith, f .used) };
+      is = λ i. record { nodes = nodes i; places = places i; state = record { layer = h .state .layer; nodes = sym size i } };
+      long = fits-long s (h .nodes) (h .places) (h .state .layer) (h .state .nodes) fit;
+    }

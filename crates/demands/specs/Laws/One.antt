@@ -1,0 +1,6 @@
+pub mod Answers
+pub mod Reading
+pub mod Stepping
+pub mod Closing
+pub mod Questioning
+pub mod Sharing

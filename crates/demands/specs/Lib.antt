@@ -1,0 +1,4 @@
+pub mod Demands
+pub mod Hand
+pub mod StandIns
+pub mod Laws
