@@ -1,0 +1,82 @@
+-- What the functions that write ask, and what they leave in the output.
+use mathlib.Core.Path.{_≡_}
+use mathlib.Core.List.{List, _++_}
+use Prim.Native.Nat.{ℕ, _+_, _≤_, _<_}
+use lib.ListN.{length, getD, take, drop}
+use Rattle.io.specs.Counts.{Counts}
+use Rattle.meaning.specs.Meaning.{total}
+use Rattle.format.specs.File.{F, D, decode}
+use Rattle.format.specs.Laws.Accepted.{Passed}
+use Rattle.rounds.specs.Laws.Reached.{Standing}
+use Rattle.building.specs.Calls.{storeIn, Lent}
+use Rattle.state.specs.Answers.{Fits}
+use Rattle.state.specs.declared.State.{State}
+use Rattle.questions.specs.Weights.{FillAsked, nodeWeight}
+use Rattle.store.specs.Store.{nodesIn}
+use Rattle.report.specs.Report.{decimal, said}
+
+-- ---- what is left
+
+-- the text stands in the output from `at` to r, and the rest is as it was
+pub record Wrote (out out₁ : List ℕ) (at r : ℕ) (text : List ℕ) : Type 0 where
+  pub bytes : out₁ ≡ take at out ++ text ++ drop r out
+  pub end : r ≡ at + length text
+  pub inside : r ≤ length out
+
+-- a word and a number behind it, which ends at most 20 digits behind the word
+pub record Named (out out₁ : List ℕ) (at r : ℕ) (word : List ℕ) (n : ℕ) : Type 0 where
+  pub wrote : Wrote out out₁ at r (word ++ decimal n)
+  pub near : r ≤ at + length word + 20
+
+-- the file's text stands at the output's start, the rest is as it was, and r is the text's length; `counts` follows, and a caller that
+-- lends the first r bytes asks for it
+pub record Reported (s out out₁ : List ℕ) (r : ℕ) : Type 0 where
+  pub bytes : out₁ ≡ said s ++ drop (length (said s)) out
+  pub count : r ≡ length (said s)
+  pub counts : Counts r out₁
+
+-- ---- what is asked
+
+-- room for every text (Laws/Short, `said-length`)
+abbrev pub Room : List ℕ → Type 0
+Room out = 16384 ≤ length out
+
+pub record HeaderAsked (out : List ℕ) (facts derived : ℕ) : Type 0 where
+  pub room : Room out
+  pub few : facts ≤ 32
+  pub some : derived ≤ 512
+
+-- a file that has passed its check, its total, and room for the text
+pub record Accepts (s out : List ℕ) (whole : ℕ) : Type 0 where
+  pub passed : Passed s
+  pub whole-is : whole ≡ total (decode s .facts)
+  pub room : Room out
+
+-- and for the weights of 4,096 nodes
+pub record Ready (s numbers out : List ℕ) (whole : ℕ) : Type 0 where
+  pub accepts : Accepts s out whole
+  pub numbers-long : length numbers ≡ 4098
+
+-- filled numbers, and a place for the first line
+pub record LinesAsked (s nodes places numbers out : List ℕ) (count facts atoms start : ℕ) : Type 0 where
+  pub filled : FillAsked s nodes numbers count facts
+  pub weights : (n : ℕ) → n < count + 2 → getD numbers n 0 ≡ nodeWeight (decode s .facts) (nodesIn nodes count) n
+  pub lent : Lent (F s) nodes places count
+  pub all : atoms ≡ F s + D s
+  pub begins : start ≤ 128
+  pub room : Room out
+
+pub record FinishedAsked (s nodes places numbers out : List ℕ) (count whole : ℕ) : Type 0 where
+  pub ready : Ready s numbers out whole
+  pub lent : Lent (F s) nodes places count
+
+pub record RunAsked (s nodes places numbers out : List ℕ) (state : State) (whole : ℕ) : Type 0 where
+  pub ready : Ready s numbers out whole
+  pub fits : Fits s nodes places state
+  pub stands : Standing (decode s) (state .layer) (storeIn nodes places (state .nodes))
+  pub size : length nodes ≡ 4096
+
+pub record StartAsked (s nodes places numbers out : List ℕ) (whole : ℕ) : Type 0 where
+  pub ready : Ready s numbers out whole
+  pub size : length nodes ≡ 4096
+  pub long : length places ≡ 544

@@ -1,0 +1,45 @@
+#!/usr/bin/env python3
+"""examples.py DIR: writes the reading program's example files, as document 01 describes the program file, into DIR.
+
+  p9.reach       001's example (P9): facts 3/7 and 2/8, wet if either
+  p11.reach      000's graph (P11): edges ba, bc, ac, ca, each 1/1; a path is an edge, or an edge and then a path
+  refused.reach  file S with the first literal of rule 2 changed to atom 6, which there is not
+  full.reach     24 facts of 1/1; atom 24 if 0 in layer 1; atom 25 if i and i + 12, for each i below 12, in layer 2: over 8,000 nodes
+"""
+import struct
+import sys
+
+
+def encode(facts, layers, rules):
+    offsets = (28, 28 + 4 * len(facts), 28 + 4 * len(facts) + len(layers))
+    out = struct.pack("<HH", 1, 3)
+    for kind, items in enumerate((facts, layers, rules)):
+        out += struct.pack("<HHI", kind + 1, len(items), offsets[kind])
+    out += b"".join(struct.pack("<HH", on, off) for on, off in facts) + bytes(layers)
+    for head, body in rules:
+        out += struct.pack("<HH", head, len(body)) + b"".join(struct.pack("<H", 2 * atom) for atom in body)
+    return out
+
+
+def graph():
+    edges = [(1, 0), (1, 2), (0, 2), (2, 0)]
+    path = lambda x, y: 4 + 3 * x + y
+    rules = [(path(x, y), [e]) for e, (x, y) in enumerate(edges)]
+    rules += [(path(x, z), [e, path(y, z)]) for e, (x, y) in enumerate(edges) for z in range(3)]
+    return encode([(1, 1)] * 4, [1] * 9, rules)
+
+
+def damaged():
+    s = bytearray(open("examples/s.reach", "rb").read())
+    s[56:58] = struct.pack("<H", 2 * 6)
+    return bytes(s)
+
+
+files = {
+    "p9": encode([(3, 7), (2, 8)], [1], [(2, [0]), (2, [1])]),
+    "p11": graph(),
+    "refused": damaged(),
+    "full": encode([(1, 1)] * 24, [1, 2], [(24, [0])] + [(25, [i, i + 12]) for i in range(12)]),
+}
+for name, data in files.items():
+    open(f"{sys.argv[1]}/{name}.reach", "wb").write(data)
