@@ -18,7 +18,7 @@ use Rattle.diagram.specs.Diagram.{leaf, says, diagramOf}
 use Rattle.diagram.specs.Listing.{listing, reads}
 use Rattle.store.specs.Store.{numberAll}
 use Rattle.store.specs.Calls.{zeroed}
-use Rattle.update.specs.Update.{Store, diagramAt, bodyBuilds, newDiagram, updateBuilds, isFull}
+use Rattle.update.specs.Update.{diagramAt, bodyBuilds, newDiagram, updateBuilds, isFull}
 use Rattle.rounds.specs.Layers.{finishedLayer, firstLayer, nextLayer, atomsOf}
 use Rattle.rounds.specs.Load.{loadedStore, loadBuilds}
 use Rattle.rounds.specs.Budget.{cost}
@@ -253,6 +253,7 @@ pub record RunAs (calls : Calls) (s : List ℕ) (budget : ℕ) (h : Hand) (u : R
   pub part : Each calls s between begun (backFrom u)
   pub unfinished : (begun ≡ []) ⊎ (rest ≡ [] → ⊥)
   pub count : u .answer .updates ≡ whole + length begun
+  pub within : u .answer .updates ≤ budget
   pub ends : Ends calls s budget rest u
 
 -- weight so far, of what the calls gave back

@@ -18,6 +18,7 @@ use Rattle.rounds.specs.Stages as stores
 use Rattle.rounds.specs.Laws.Layers.{atoms-layer, atoms-derived, finished-none}
 use Rattle.rounds.specs.Laws.Close.{close-only}
 use Rattle.rounds.specs.Laws.Each.{each-first}
+use Rattle.rounds.specs.Laws.Budget.{run-within}
 use Rattle.rounds.specs.Laws.Skip.{next-finished}
 use Rattle.state.specs.Laws.Fits.{passed-layered}
 use Rattle.fitting.specs.Fit.{placesIn}
@@ -166,5 +167,6 @@ ours-run s b h budget e =
           (λ a i. rw (r .order) (Memᴰ·append-left (r .rest) i)) (r .part);
       unfinished = r .unfinished;
       count = r .count;
+      within = run-within (decode s) (room h) budget (h .state .layer) (store h);
       ends = ends-so s h (m .long) budget g (held-run b (m .held) budget) (r .begun) (r .rest) (r .order) (g .how) refl (r .ends);
     })
