@@ -135,9 +135,9 @@ hasty = oursBut
           record { answer = record { refusal = 0; detail = 0; state = g .state }; nodes = g .nodes; places = g .places }
     ]
 
--- "An invented update count": where ours runs, this count, whatever was done
-abbrev pub inventing : ℕ → Calls
-inventing n = oursBut (ours .update) (ours .close) (λ s nodes places state budget. set (ours .run s nodes places state budget))
+-- "An invented update count": where ours runs, a count of one's own, made of all that ours answered
+abbrev pub inventing : (Ranned → ℕ) → Calls
+inventing count = oursBut (ours .update) (ours .close) (λ s nodes places state budget. set (ours .run s nodes places state budget))
     (ours .weight) (ours .listing)
   where
     set : Ranned → Ranned
@@ -147,7 +147,7 @@ inventing n = oursBut (ours .update) (ours .close) (λ s nodes places state budg
         detail = u .answer .detail;
         state = u .answer .state;
         outcome = u .answer .outcome;
-        updates = cond (eqb (u .answer .refusal) 0) n 0;
+        updates = cond (eqb (u .answer .refusal) 0) (count u) 0;
       };
       nodes = u .nodes;
       places = u .places;

@@ -1,12 +1,15 @@
--- No stand-in of document 01 meets the demands ("Try these stand-ins against demands 2 and 3 together"), each refuted on file S.
-use mathlib.Core.Path.{_≡_, refl, subst, ap, _∙_}
-use mathlib.Core.Bool.{true, false, true≢false}
+-- No stand-in of document 01 meets the demands ("Try these stand-ins against demands 2 and 3 together"), each refuted on file S, but the
+-- invented count on every run where it is not ours.
+use mathlib.Core.Path.{_≡_, refl, subst}
+use mathlib.Core.Bool.{true, false, cond, true≢false}
 use mathlib.Core.List.{List, [], _∷_}
 use Prim.Native.Nat.{ℕ}
 use native.Mathlib.Omega.{arith}
-use lib.ListN.{length, replicate}
+use lib.Dec.{eqb}
+use lib.ListN.{replicate}
+use borrow.Author.Tests.{eq-eqb}
 use Rattle.meaning.specs.Meaning.{total, layerOf, holds, weightOf}
-use Rattle.format.specs.Bytes.{u16, u32}
+use Rattle.format.specs.Bytes.{Bytes, u16, u32}
 use Rattle.format.specs.File.{decode}
 use Rattle.format.specs.Refusals.{verdict}
 use Rattle.diagram.specs.Diagram.{eval, combine, negate}
@@ -15,14 +18,15 @@ use Rattle.store.specs.Store.{treeOf}
 use Rattle.update.specs.Update.{isFull}
 use Rattle.rounds.specs.Layers.{lowestAbove, atomsFrom}
 use Rattle.rounds.specs.Close.{check}
-use Rattle.rounds.specs.Run.{runs as running}
 use Rattle.rounds.specs.Calls.{updateCall}
 use Rattle.fitting.specs.Fit.{fitTogether}
-use Rattle.reach.specs.Calls.{Calls, Ranned}
+use Rattle.reach.specs.Calls.{Ranned, ours}
 use Rattle.worked.specs.Files.{fileS}
-use Rattle.demands.specs.Hand.{Hand, closes, back, backFrom, Reached, by-close}
-use Rattle.demands.specs.Demands.{firstOf, Each, inWork, Rounds, Ends, RunAs, Demands}
+use Rattle.demands.specs.Hand.{Hand, closes, runs, back, Reached, by-close}
+use Rattle.demands.specs.Demands.{firstOf, Each, Rounds, Ends, RunAs, Demands}
 use Rattle.demands.specs.StandIns.{refusing, fixedWeight, fixedListing, idle, hasty, solve, inventing}
+use Rattle.demands.specs.Laws.Fixed.{run-fixed}
+use Rattle.demands.specs.Laws.Two.Runs.{ours-run}
 use Rattle.demands.specs.Laws.FileS.{bytes-S, words, places, loadedS, finishedS, reached-loaded, reached-finished}
 
 -- "One refusing everything": the loading of S passes every test, and if it is not refused, layer 1 is then in work
@@ -84,35 +88,42 @@ not-hasty d =
 
 -- ---- "An invented update count"
 
-module _ {calls : Calls} {s : List ℕ} where
-  -- a run that is spent has made as many updates as its budget,
-  spent-count : {budget : ℕ} {rest : List ℕ} {u : Ranned} → Ends calls s budget rest u → u .answer .outcome ≡ 2 →
-      u .answer .updates ≡ budget
-  spent-count (Ends.finished o l) z = absurd (omega arith)
-  spent-count (Ends.spent o l c) z = c
-  spent-count (Ends.full o l c r f) z = absurd (omega arith)
+-- its updates and closings are ours, so that a run is made of them as ours is,
+module _ (count : Ranned → ℕ) {s : List ℕ} where
+  each-ours : {h h₁ : Hand} {l : List ℕ} → Each ours s h l h₁ → Each (inventing count) s h l h₁
+  each-ours Each.none = Each.none
+  each-ours (Each.next r e) = Each.next r (each-ours e)
 
-  -- and with no updates, where the layer in work has atoms, all is as it was
-  no-rounds : {h h₁ : Hand} {n : ℕ} → Rounds calls s h n h₁ → n ≡ 0 → (length (inWork s h) ≡ 0 → ⊥) → h₁ ≡ h
-  no-rounds Rounds.none z ne = refl
-  no-rounds (Rounds.round e c r) z ne = absurd (ne (omega arith))
-  no-rounds (Rounds.closing e c k r) z ne = absurd (ne (omega arith))
+  rounds-ours : {h h₁ : Hand} {n : ℕ} → Rounds ours s h n h₁ → Rounds (inventing count) s h n h₁
+  rounds-ours Rounds.none = Rounds.none
+  rounds-ours (Rounds.round e d r) = Rounds.round (each-ours e) d (rounds-ours r)
+  rounds-ours (Rounds.closing e d c r) = Rounds.closing (each-ours e) d c (rounds-ours r)
 
-  no-part : {h h₁ : Hand} {l : List ℕ} → Each calls s h l h₁ → length l ≡ 0 → h₁ ≡ h
-  no-part Each.none z = refl
-  no-part (Each.next r e) z = absurd (omega arith)
+  ends-ours : {budget : ℕ} {rest : List ℕ} {u : Ranned} → Ends ours s budget rest u → Ends (inventing count) s budget rest u
+  ends-ours (Ends.finished o l) = Ends.finished o l
+  ends-ours (Ends.spent o l c) = Ends.spent o l c
+  ends-ours (Ends.full o l c r f) = Ends.full o l c r f
 
-  no-updates : {budget : ℕ} {h : Hand} {u : Ranned} → RunAs calls s budget h u → u .answer .updates ≡ 0 → (length (inWork s h) ≡ 0 → ⊥) →
-      backFrom u ≡ h
-  no-updates r z ne =
-      let c : _ = r .count in
-      no-part (r .part) (omega arith) ∙ no-rounds (r .rounds) (omega arith) ne
+  run-ours : {budget : ℕ} {h : Hand} {u : Ranned} → RunAs ours s budget h u → RunAs (inventing count) s budget h u
+  run-ours r = record {
+    whole = r .whole;
+    between = r .between;
+    rounds = rounds-ours (r .rounds);
+    begun = r .begun;
+    rest = r .rest;
+    order = r .order;
+    part = each-ours (r .part);
+    unfinished = r .unfinished;
+    count = r .count;
+    within = r .within;
+    ends = ends-ours (r .ends);
+  }
 
--- a budget of 0 is spent, so that the count is 0; but a run of S with a budget of 100 does not stay in layer 1
-pub not-inventing : (n : ℕ) → Demands (inventing n) → ⊥
-unfolding fitTogether decode u16 u32 total layerOf running atomsFrom lowestAbove combine negate eval
-not-inventing n d =
-    let z : n ≡ 0 = spent-count (d .two .run fileS bytes-S loadedS 0 refl .ends) refl in
-    let made : _ = d .two .run fileS bytes-S loadedS 100 refl in
-    let e : _≡_ {A = ℕ} 65535 1 = ap (λ h. h .state .layer) (no-updates made z (λ e. omega arith)) in
-    omega arith
+-- and "the count fixes the state": another count than ours, in a single run, is no count of a run
+pub not-inventing : (count : Ranned → ℕ) → (s : List ℕ) → Bytes s → (h : Hand) (budget : ℕ) → runs ours s h budget .answer .refusal ≡ 0 →
+    (count (runs ours s h budget) ≡ runs ours s h budget .answer .updates → ⊥) → Demands (inventing count) → ⊥
+not-inventing count s bytes h budget e n d =
+    let u : Ranned = runs ours s h budget in
+    let same : cond (eqb (u .answer .refusal) 0) (count u) 0 ≡ u .answer .updates =
+    run-fixed (d .one) s bytes (d .two .run s bytes h budget e) (run-ours count (ours-run s bytes h budget e)) .0 in
+    n (rw (eq-eqb (u .answer .refusal) 0 e) at same)

@@ -1,0 +1,199 @@
+-- The update and close calls fix what a run may answer: "the count fixes the state".
+-- Of two runs from one hand, `RunAs` makes the longer go along with the other to its end and make one update more; but at its end a run has
+-- no update more to make.
+use mathlib.Core.Path.{_≡_, refl, sym, ap, subst, _∙_}
+use mathlib.Core.Logic.{_⊎_, inl, inr}
+use mathlib.Core.Bool.{Bool, true, false, cond, true≢false}
+use mathlib.Core.List.{List, [], _∷_, _++_, append-nil, List·Memᴰ, List·Memᴰ·not-nil}
+use Prim.Native.Nat.{ℕ, suc, _+_, _≤_, _<_}
+use native.Mathlib.Omega.{arith}
+use native.Mathlib.Decide.{ℕ-discrete}
+use lib.Dec.{eqb}
+use lib.ListN.{length}
+use borrow.Author.Tests.{not-false, eqb-true, eq-eqb, ne-eqb}
+use Rattle.meaning.specs.Meaning.{layerOf}
+use Rattle.format.specs.Bytes.{Bytes}
+use Rattle.format.specs.File.{decode}
+use Rattle.rounds.specs.Layers.{finishedLayer, atomsOf}
+use Rattle.rounds.specs.Laws.Layers.{atoms-all, has-some, finished-none}
+use Rattle.state.specs.Laws.Fits.{passed-layered}
+use Rattle.reach.specs.Calls.{Calls, Ranned}
+use Rattle.demands.specs.Hand.{Hand, updates, closes, back, backFrom}
+use Rattle.demands.specs.Demands.{firstOf, closeTests, Answers, Each, inWork, Rounds, Ends, RunAs}
+use Rattle.demands.specs.Laws.Holding.{in-hand}
+
+-- ---- calls that are not refused
+
+-- where the tests give no refusal, each says no
+each-no : (n : ℕ) (t : Bool) (ts : List (ℕ × Bool)) → firstOf ((suc n, t) ∷ ts) ≡ 0 → (t ≡ false) × (firstOf ts ≡ 0)
+unfolding firstOf
+each-no n true ts e = absurd (omega arith)
+each-no n false ts e = (refl, e)
+
+module _ {calls : Calls} (answers : Answers calls) {s : List ℕ} {h : Hand} where
+  -- no update is made at the finish: no atom of a file is of that layer,
+  not-finished : Bytes s → {a : ℕ} → updates calls s h a .answer .refusal ≡ 0 → h .state .layer ≡ finishedLayer → ⊥
+  not-finished bytes {a} e f =
+      let p = each-no 35 _ _ (sym (answers .update s h a .refusal) ∙ e) in
+      let q = each-no 12 _ _ (p .1) in
+      let r = each-no 13 _ _ (q .1) in
+      let is : layerOf (decode s) a ≡ h .state .layer = eqb-true _ _ (not-false _ (r .0)) in
+      let m : List·Memᴰ a (atomsOf (decode s) finishedLayer) = atoms-all (decode s) finishedLayer (omega arith) a (is ∙ f) in
+      List·Memᴰ·not-nil (subst (List·Memᴰ a) (finished-none (passed-layered (in-hand {s = s} {h = h} (p .0) .held .passed) bytes)) m)
+
+  -- and a layer that is closed has atoms
+  closed-some : closes calls s h .answer .refusal ≡ 0 → inWork s h ≡ [] → ⊥
+  closed-some e none = elim (ℕ-discrete (firstOf (closeTests s h)) 0) [
+    | no n ↦ n (sym (answers .close s h .refused n .0) ∙ e)
+    | yes z ↦
+        let p = each-no 35 _ _ z in
+        let q = each-no 15 _ _ (p .1) in
+        elim (in-hand {s = s} {h = h} (p .0) .held .fit .in-work) [
+          | inl f ↦ true≢false (sym (eq-eqb _ _ f) ∙ q .0)
+          | inr t ↦ has-some (decode s) (h .state .layer) t none
+        ]
+  ]
+
+-- ---- two ways from one hand
+
+-- the next update, of the first atom that is left, is made
+record Makes (calls : Calls) (s : List ℕ) (h : Hand) (rest : List ℕ) : Type 0 where
+  atom : ℕ
+  others : List ℕ
+  is : rest ≡ atom ∷ others
+  made : updates calls s h atom .answer .refusal ≡ 0
+
+-- two ways of m and n updates, with the atoms that each has left in its round: they are one, or one makes the other's next update
+data Meet (calls : Calls) (s : List ℕ) (g : Hand) (m : ℕ) (rest : List ℕ) (k : Hand) (n : ℕ) (rest₁ : List ℕ) : Type 0 where
+  same : g ≡ k → m ≡ n → rest ≡ rest₁ → Meet calls s g m rest k n rest₁
+  ahead : Makes calls s g rest → m < n → Meet calls s g m rest k n rest₁
+  behind : Makes calls s k rest₁ → n < m → Meet calls s g m rest k n rest₁
+
+-- a further round, that changed a place or was followed by a closing
+record Turn (calls : Calls) (s : List ℕ) (h : Hand) : Type 0 where
+  to : Hand
+  each : Each calls s h (inWork s h) to
+  goes : (to .places ≡ h .places → ⊥) ⊎ (closes calls s to .answer .refusal ≡ 0)
+
+-- two ways of whole rounds: they are one, or one makes the other's next round
+data MeetWhole (calls : Calls) (s : List ℕ) (g : Hand) (m : ℕ) (k : Hand) (n : ℕ) : Type 0 where
+  same : g ≡ k → m ≡ n → MeetWhole calls s g m k n
+  ahead : Turn calls s g → m + length (inWork s g) ≤ n → MeetWhole calls s g m k n
+  behind : Turn calls s k → n + length (inWork s k) ≤ m → MeetWhole calls s g m k n
+
+module _ {calls : Calls} {s : List ℕ} where
+  -- updates of the same atoms leave the same in hand,
+  each-same : {h g k : Hand} {l : List ℕ} → Each calls s h l g → Each calls s h l k → g ≡ k
+  each-same Each.none Each.none = refl
+  each-same (Each.next r e) (Each.next q f) = each-same e f
+
+  meet-more : {g k : Hand} {m n : ℕ} {rest rest₁ : List ℕ} → Meet calls s g m rest k n rest₁ → Meet calls s g (suc m) rest k (suc n) rest₁
+  meet-more (Meet.same e c r) = Meet.same e (omega arith) r
+  meet-more (Meet.ahead a lt) = Meet.ahead a (omega arith)
+  meet-more (Meet.behind a lt) = Meet.behind a (omega arith)
+
+  -- those of two parts of one list meet,
+  each-meet : {h g k : Hand} {l i : List ℕ} (rest rest₁ : List ℕ) → l ++ rest ≡ i ++ rest₁ → Each calls s h l g → Each calls s h i k →
+      Meet calls s g (length l) rest k (length i) rest₁
+  each-meet rest rest₁ o Each.none Each.none = Meet.same refl refl o
+  each-meet rest rest₁ o Each.none (Each.next q f) = Meet.ahead (record { atom = _; others = _; is = o; made = q }) (omega arith)
+  each-meet rest rest₁ o (Each.next r e) Each.none = Meet.behind (record { atom = _; others = _; is = sym o; made = r }) (omega arith)
+  each-meet {h} {k = k} rest rest₁ o (Each.next {a = a} {l = l} r e) (Each.next {a = b} {l = i} q f) =
+      let p : b ≡ a = cc in
+      let t : l ++ rest ≡ i ++ rest₁ = cc in
+      meet-more (each-meet rest rest₁ t e (subst (λ x. Each calls s (back (updates calls s h x)) i k) p f))
+
+  whole-more : {g k : Hand} {m n : ℕ} (x : ℕ) → MeetWhole calls s g m k n → MeetWhole calls s g (x + m) k (x + n)
+  whole-more x (MeetWhole.same e c) = MeetWhole.same e (omega arith)
+  whole-more x (MeetWhole.ahead t le) = MeetWhole.ahead t (omega arith)
+  whole-more x (MeetWhole.behind t le) = MeetWhole.behind t (omega arith)
+
+  -- and so do whole rounds
+  rounds-meet : {h g k : Hand} {m n : ℕ} → Rounds calls s h m g → Rounds calls s h n k → MeetWhole calls s g m k n
+  rounds-meet Rounds.none Rounds.none = MeetWhole.same refl refl
+  rounds-meet Rounds.none (Rounds.round f d q) = MeetWhole.ahead (record { to = _; each = f; goes = inl d }) (omega arith)
+  rounds-meet Rounds.none (Rounds.closing f d c q) = MeetWhole.ahead (record { to = _; each = f; goes = inr c }) (omega arith)
+  rounds-meet (Rounds.round e d r) Rounds.none = MeetWhole.behind (record { to = _; each = e; goes = inl d }) (omega arith)
+  rounds-meet (Rounds.closing e d c r) Rounds.none = MeetWhole.behind (record { to = _; each = e; goes = inr c }) (omega arith)
+  rounds-meet (Rounds.round e d r) (Rounds.closing f p c q) = absurd (d (ap (λ x. x .places) (each-same e f) ∙ p))
+  rounds-meet (Rounds.closing e p c r) (Rounds.round f d q) = absurd (d (ap (λ x. x .places) (each-same f e) ∙ p))
+  rounds-meet {h} {k = k} (Rounds.round e d r) (Rounds.round {n = n} f p q) =
+      whole-more (length (inWork s h)) (rounds-meet r (subst (λ x. Rounds calls s x n k) (each-same f e) q))
+  rounds-meet {h} {k = k} (Rounds.closing e d c r) (Rounds.closing {n = n} f p z q) =
+      whole-more (length (inWork s h)) (rounds-meet r (subst (λ x. Rounds calls s (back (closes calls s x)) n k) (each-same f e) q))
+
+module _ {calls : Calls} (answers : Answers calls) {s : List ℕ} {h : Hand} where
+  -- a further round has atoms
+  turn-some : Turn calls s h → inWork s h ≡ [] → ⊥
+  turn-some t none =
+      let e : h ≡ t .to = each-same Each.none (subst (λ l. Each calls s h l (t .to)) none (t .each)) in
+      elim (t .goes) [
+        | inl d ↦ d (ap (λ x. x .places) (sym e))
+        | inr c ↦ closed-some answers (subst (λ x. closes calls s x .answer .refusal ≡ 0) (sym e) c) none
+      ]
+
+-- ---- two runs
+
+-- how a run ends is told by its layer and its count
+abbrev outcomeAt : ℕ → ℕ → ℕ → ℕ
+outcomeAt budget layer count = cond (eqb layer finishedLayer) 1 (cond (eqb count budget) 2 3)
+
+module _ {calls : Calls} {s : List ℕ} {budget : ℕ} {u : Ranned} where
+  ends-at : {rest : List ℕ} → Ends calls s budget rest u →
+      u .answer .outcome ≡ outcomeAt budget (u .answer .state .layer) (u .answer .updates)
+  ends-at (Ends.finished o l) = rw (eq-eqb _ _ l) o
+  ends-at (Ends.spent o l c) = rw (ne-eqb _ _ l, eq-eqb _ _ c) o
+  ends-at (Ends.full o l c r f) = rw (ne-eqb _ _ l, ne-eqb (u .answer .updates) budget (λ z. omega arith)) o
+
+  module _ (answers : Answers calls) where
+    -- at its end a run has no update more to make,
+    none-more : Bytes s → {rest : List ℕ} → Ends calls s budget rest u → Makes calls s (backFrom u) rest → u .answer .updates < budget → ⊥
+    none-more bytes (Ends.finished o l) m lt = not-finished answers bytes (m .made) l
+    none-more bytes (Ends.spent o l c) m lt = omega arith
+    none-more bytes (Ends.full {a = a} o l c r f) m lt =
+        let p : m .atom ≡ a = cc (m .is, r) in
+        let q = m .made in
+        let z : updates calls s (backFrom u) (m .atom) .answer .refusal ≡ 12 = rw p f in
+        omega arith
+
+    -- which a further round would make
+    next-made : {h : Hand} (r : RunAs calls s budget h u) → Turn calls s (r .between) →
+        Makes calls s (backFrom u) (r .rest) × (length (r .begun) < length (inWork s (r .between)))
+    next-made r t = elim (each-meet (r .rest) [] (sym (r .order) ∙ sym (append-nil _)) (r .part) (t .each)) [
+      | Meet.ahead m lt ↦ (m, lt)
+      | Meet.behind m lt ↦ absurd (omega (arith, ap length (m .is)))
+      | Meet.same e c z ↦ elim (r .unfinished) [
+        | inl y ↦ absurd (turn-some answers t (r .order ∙ (λ i. y i ++ z i)))
+        | inr n ↦ absurd (n z)
+      ]
+    ]
+
+module _ {calls : Calls} {s : List ℕ} {budget : ℕ} {h : Hand} {u v : Ranned} (answers : Answers calls) where
+  runs-meet : (p : RunAs calls s budget h u) (q : RunAs calls s budget h v) →
+      Meet calls s (backFrom u) (u .answer .updates) (p .rest) (backFrom v) (v .answer .updates) (q .rest)
+  runs-meet p q =
+      let c = p .count in
+      let d = q .count in
+      elim (rounds-meet (p .rounds) (q .rounds)) [
+        | MeetWhole.ahead t le ↦ let (m, lt) = next-made answers p t in Meet.ahead m (omega arith)
+        | MeetWhole.behind t le ↦ let (m, lt) = next-made answers q t in Meet.behind m (omega arith)
+        | MeetWhole.same e n ↦
+            let o : p .begun ++ p .rest ≡ q .begun ++ q .rest = sym (p .order) ∙ ap (inWork s) e ∙ q .order in
+            elim (each-meet (p .rest) (q .rest) o (p .part) (subst (λ x. Each calls s x (q .begun) (backFrom v)) (sym e) (q .part))) [
+              | Meet.same e z r ↦ Meet.same e (omega arith) r
+              | Meet.ahead m lt ↦ Meet.ahead m (omega arith)
+              | Meet.behind m lt ↦ Meet.behind m (omega arith)
+            ]
+      ]
+
+pub run-fixed : {calls : Calls} → Answers calls → (s : List ℕ) → Bytes s → {budget : ℕ} {h : Hand} {u v : Ranned} →
+    RunAs calls s budget h u → RunAs calls s budget h v →
+    (u .answer .updates ≡ v .answer .updates) × (backFrom u ≡ backFrom v) × (u .answer .outcome ≡ v .answer .outcome)
+run-fixed answers s bytes {budget} p q =
+    let c = p .within in
+    let d = q .within in
+    elim (runs-meet answers p q) [
+      | Meet.same e n r ↦ (n, e, ends-at (p .ends) ∙ (λ i. outcomeAt budget (e i .state .layer) (n i)) ∙ sym (ends-at (q .ends)))
+      | Meet.ahead m lt ↦ absurd (none-more answers bytes (p .ends) m (omega arith))
+      | Meet.behind m lt ↦ absurd (none-more answers bytes (q .ends) m (omega arith))
+    ]
