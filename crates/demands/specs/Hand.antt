@@ -3,7 +3,7 @@ use mathlib.Core.Path.{_≡_}
 use mathlib.Core.Bool.{Bool, not}
 use mathlib.Core.List.{List}
 use Prim.Native.Nat.{ℕ, _-_, _≤_}
-use lib.ListN.{length, take, drop, replicate}
+use lib.ListN.{take, drop, replicate}
 use Rattle.update.specs.Update.{Store}
 use Rattle.fitting.specs.Fit.{roomIn, wordsIn, placesIn}
 use Rattle.reach.specs.Calls.{Calls, Stepped, Ranned, Weighing, Sharing, Listing, lentStore, fits}
