@@ -7,6 +7,5 @@ mod guard;
 mod library;
 mod stand_in;
 
-pub use abi::Shared;
 pub use call::{Answer, Call, Memory, Side};
 pub use library::Library;

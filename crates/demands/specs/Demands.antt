@@ -191,9 +191,9 @@ pub record Answers (calls : Calls) : Type 0 where
   pub listing : (s : List ℕ) (h : Hand) (a : ℕ) (out : List ℕ) → Lists s h a out (lists calls s h a out)
 
 -- ---- 2. "As long as the bench lends the same file and hands back the store and numbers as it got them (3 assumes this too): at the
--- finish, a branch's weight is exactly the summed weight of those choices of facts whose model, built layer by layer from nothing, holds the
--- branch; with observations, both weights are exact. Before the finish, after any order of updates, the weight shown is never above that
--- sum."
+-- finish, a branch's weight is exactly the summed weight of those choices of facts whose model, built layer by layer from nothing, holds
+-- the branch; with observations, both weights are exact. Before the finish, after any order of updates, the weight shown is never above
+-- that sum."
 
 -- "Unused entries among the N are zero"; "entries beyond, like atom places beyond 544, keep their values"
 pub record Tidy (h h₁ : Hand) : Type 0 where
@@ -293,8 +293,8 @@ pub record Exact (calls : Calls) : Type 0 where
       (a : ℕ) (evidence numbers : List ℕ) → Shared s h a evidence numbers (shares calls s h a evidence numbers)
 
 -- ---- 3. "Take two finished runs over files with equally many facts, however their rules and updates were ordered. The listings of a
--- branch from each, where both are given, are the same bytes exactly when the two branches hold under the same choices. Read by the published
--- rule, a listing says yes to a choice exactly when its branch holds there."
+-- branch from each, where both are given, are the same bytes exactly when the two branches hold under the same choices. Read by the
+-- published rule, a listing says yes to a choice exactly when its branch holds there."
 
 -- the listing of the choices that hold an atom, which no search and no order has a part in
 abbrev pub listingOf : Program → ℕ → List ℕ

@@ -1,6 +1,6 @@
 // "Fit together": the test that every later call makes first (specs/Fit.antt).
 use format::Verdict;
-ghost use mathlib.Core.Bool.{_&&_, _||_};
+ghost use mathlib.Core.Bool.{_||_};
 ghost use mathlib.Core.Path.{_≡_};
 ghost use Prim.Native.Nat.{_≤_, min};
 ghost use lib.Dec.{eqb};

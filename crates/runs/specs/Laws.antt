@@ -30,7 +30,7 @@ module _ {s nodes places : List ℕ} {state : State} (q : Ready s nodes places s
   -- after an update that is done,
   pub ready-updated : {nodes₁ places₁ : List ℕ} {state₁ : State} {atom : ℕ} {r : Step} → AtomAsked s atom →
       UpdateDone s nodes nodes₁ places places₁ state atom r → r ≡ step.Done state₁ → Ready s nodes₁ places₁ state₁
-  ready-updated a d e = record { fits = fits-updated (q .layered) (q .fits) a (rw e at d); layered = q .layered }
+  ready-updated a d e = record { fits = fits-updated (q .fits) a (rw e at d); layered = q .layered }
 
   -- and after one that is full
   pub ready-full : {nodes₁ places₁ : List ℕ} (atom : ℕ) {r : Step} → UpdateDone s nodes nodes₁ places places₁ state atom r →

@@ -1,9 +1,10 @@
-//! What the calls answer, with the fields of reach.h.
+//! What the calls answer: the structs of reach.h, for the engine and for the library behind it.
 
 use super::memory::State;
 use crate::file::Refusal;
 
 /// Of loading, updating and closing.
+#[repr(C)]
 #[derive(Clone, Copy, Debug, PartialEq)]
 pub struct Step {
     /// 0 where the call was done.
@@ -23,14 +24,19 @@ impl Step {
     }
 }
 
-#[derive(Clone, Copy, Debug, PartialEq)]
-pub enum Outcome {
-    Refused,
-    Finished,
-    Spent,
-    Full,
+/// A number, since the library could answer any.
+#[repr(transparent)]
+#[derive(Clone, Copy, Debug, PartialEq, Eq)]
+pub struct Outcome(pub u32);
+
+impl Outcome {
+    pub const REFUSED: Outcome = Outcome(0);
+    pub const FINISHED: Outcome = Outcome(1);
+    pub const SPENT: Outcome = Outcome(2);
+    pub const FULL: Outcome = Outcome(3);
 }
 
+#[repr(C)]
 #[derive(Clone, Copy, Debug, PartialEq)]
 pub struct Ran {
     pub refusal: u32,
@@ -43,7 +49,7 @@ pub struct Ran {
 
 impl Ran {
     pub fn refused(refusal: Refusal, state: State) -> Ran {
-        Ran { refusal: refusal.number, detail: refusal.detail, state, outcome: Outcome::Refused, updates: 0 }
+        Ran { refusal: refusal.number, detail: refusal.detail, state, outcome: Outcome::REFUSED, updates: 0 }
     }
 }
 
@@ -53,6 +59,7 @@ pub fn plain(number: u32) -> Refusal {
 }
 
 /// Of weight so far.
+#[repr(C)]
 #[derive(Clone, Copy, Debug, PartialEq)]
 pub struct Weighed {
     pub refusal: u32,
@@ -61,6 +68,7 @@ pub struct Weighed {
 }
 
 /// Of weight given evidence.
+#[repr(C)]
 #[derive(Clone, Copy, Debug, PartialEq)]
 pub struct Shared {
     pub refusal: u32,
@@ -69,6 +77,7 @@ pub struct Shared {
     pub evidence: u64,
 }
 
+#[repr(C)]
 #[derive(Clone, Copy, Debug, PartialEq)]
 pub struct Listed {
     pub refusal: u32,

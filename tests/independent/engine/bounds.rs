@@ -40,7 +40,7 @@ pub fn enough_updates(jobs: &[Job]) -> Checked {
         let mut session = session.clone();
         let budget = enough(&program(&session), session.state.layer);
         let answer = ran(&mut session, budget);
-        same("spent", answer.outcome == Outcome::Spent, false)
+        same("spent", answer.outcome == Outcome::SPENT, false)
     })
 }
 
@@ -54,9 +54,9 @@ pub fn reversed_chains() -> Checked {
             let job = Job::new(1, &[], &chain(&order));
             let mut session = Session::load(&job, Engine::HONEST).expect("room for one fact");
             let short = ran(&mut session.clone(), updates as u32 - 1);
-            same("one update less", (short.outcome, short.updates), (Outcome::Spent, updates - 1))?;
+            same("one update less", (short.outcome, short.updates), (Outcome::SPENT, updates - 1))?;
             let whole = ran(&mut session, 262_656);
-            same("updates of a chain", (whole.outcome, whole.updates), (Outcome::Finished, updates))?;
+            same("updates of a chain", (whole.outcome, whole.updates), (Outcome::FINISHED, updates))?;
         }
     }
     Ok(2 * usize::from(longest))
@@ -78,7 +78,7 @@ pub fn larger_budgets(jobs: &[Job]) -> Checked {
 }
 
 fn continues((shorter, before): &(Ran, Session), answer: &Ran, after: &Session) -> Result<(), String> {
-    if shorter.outcome != Outcome::Spent {
+    if shorter.outcome != Outcome::SPENT {
         same("answer with more budget", answer, shorter)?;
         return same("memory with more budget", &after.lent, &before.lent);
     }
@@ -87,7 +87,7 @@ fn continues((shorter, before): &(Ran, Session), answer: &Ran, after: &Session) 
     let places = before.lent.places.iter().zip(&after.lent.places);
     let changed = places.filter(|(before, after)| before != after).count();
     same("one place at most", changed <= 1, true)?;
-    same("updates more", answer.updates - shorter.updates, u64::from(answer.outcome != Outcome::Full))
+    same("updates more", answer.updates - shorter.updates, u64::from(answer.outcome != Outcome::FULL))
 }
 
 /// However often it is run with fewer updates than the layer has atoms.
@@ -121,10 +121,10 @@ fn by_updates(session: &mut Session, budget: u64) -> Result<(Outcome, u64), Stri
         let before = session.lent.places.clone();
         for atom in layers::atoms(&program, session.state.layer) {
             if made == budget {
-                return Ok((Outcome::Spent, made));
+                return Ok((Outcome::SPENT, made));
             }
             if session.call(&update(atom as u32)).refusal() == 12 {
-                return Ok((Outcome::Full, made));
+                return Ok((Outcome::FULL, made));
             }
             made += 1;
         }
@@ -133,5 +133,5 @@ fn by_updates(session: &mut Session, budget: u64) -> Result<(Outcome, u64), Stri
             same("closing after a settled round", session.call(&close()).refusal(), 0)?;
         }
     }
-    Ok((Outcome::Finished, made))
+    Ok((Outcome::FINISHED, made))
 }

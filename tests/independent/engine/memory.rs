@@ -25,6 +25,8 @@ impl Lent {
     }
 }
 
+/// `reach_state`.
+#[repr(C)]
 #[derive(Clone, Copy, Debug, PartialEq)]
 pub struct State {
     pub layer: u32,

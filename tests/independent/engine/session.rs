@@ -30,10 +30,11 @@ impl fmt::Display for Answer {
         let (done, step) = match self {
             Answer::Ran(ran) => {
                 let outcome = match ran.outcome {
-                    Outcome::Refused => return write!(out, "refused {} {}", ran.refusal, ran.detail),
-                    Outcome::Finished => "finished",
-                    Outcome::Spent => "spent",
-                    Outcome::Full => "full",
+                    Outcome::REFUSED => return write!(out, "refused {} {}", ran.refusal, ran.detail),
+                    Outcome::FINISHED => "finished",
+                    Outcome::SPENT => "spent",
+                    Outcome::FULL => "full",
+                    Outcome(number) => return write!(out, "outcome {number}"),
                 };
                 return write!(out, "{outcome} {} {}", ran.updates, ran.state);
             }

@@ -1,60 +1,7 @@
 //! The calls of reach.h as C has them.
 
-/// `reach_state`.
-#[repr(C)]
-#[derive(Clone, Copy, Debug, PartialEq)]
-pub struct State {
-    pub layer: u32,
-    pub nodes: u32,
-}
-
-/// `reach_step`.
-#[repr(C)]
-#[derive(Clone, Copy, Debug, PartialEq)]
-pub struct Step {
-    pub refusal: u32,
-    pub detail: u32,
-    pub state: State,
-}
-
-/// `reach_ran`. The outcome is a number, since the library could answer any.
-#[repr(C)]
-#[derive(Clone, Copy, Debug, PartialEq)]
-pub struct Ran {
-    pub refusal: u32,
-    pub detail: u32,
-    pub state: State,
-    pub outcome: u32,
-    pub updates: u64,
-}
-
-/// `reach_weighed`.
-#[repr(C)]
-#[derive(Clone, Copy, Debug, PartialEq)]
-pub struct Weighed {
-    pub refusal: u32,
-    pub detail: u32,
-    pub weight: u64,
-}
-
-/// `reach_shared`.
-#[repr(C)]
-#[derive(Clone, Copy, Debug, PartialEq)]
-pub struct Shared {
-    pub refusal: u32,
-    pub detail: u32,
-    pub both: u64,
-    pub evidence: u64,
-}
-
-/// `reach_listed`.
-#[repr(C)]
-#[derive(Clone, Copy, Debug, PartialEq)]
-pub struct Listed {
-    pub refusal: u32,
-    pub detail: u32,
-    pub length: u64,
-}
+use crate::engine::answer::{Listed, Ran, Shared, Step, Weighed};
+use crate::engine::memory::State;
 
 #[rustfmt::skip] // One array a line, as in reach.h.
 extern "C" {

@@ -1,6 +1,6 @@
 //! A call, what is lent for it, and what it answers.
 
-use super::abi;
+use crate::engine::answer::{Listed, Ran, Shared, Step, Weighed};
 use crate::engine::memory::{Lent, State};
 
 #[derive(Clone, Copy, Debug, PartialEq)]
@@ -42,11 +42,11 @@ pub struct Memory {
 
 #[derive(Clone, Copy, Debug, PartialEq)]
 pub enum Answer {
-    Step(abi::Step),
-    Ran(abi::Ran),
-    Weighed(abi::Weighed),
-    Shared(abi::Shared),
-    Listed(abi::Listed),
+    Step(Step),
+    Ran(Ran),
+    Weighed(Weighed),
+    Shared(Shared),
+    Listed(Listed),
 }
 
 impl Answer {
@@ -63,9 +63,7 @@ impl Answer {
     /// Questions give none.
     pub fn state(&self) -> Option<State> {
         match self {
-            Answer::Step(abi::Step { state, .. }) | Answer::Ran(abi::Ran { state, .. }) => {
-                Some(State { layer: state.layer, nodes: state.nodes })
-            }
+            Answer::Step(Step { state, .. }) | Answer::Ran(Ran { state, .. }) => Some(*state),
             _ => None,
         }
     }

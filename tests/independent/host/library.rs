@@ -3,6 +3,7 @@
 use super::abi::*;
 use super::call::{Answer, Call, Memory, Side};
 use super::guard::Guarded;
+use crate::engine::memory::State;
 use std::cell::Cell;
 
 /// Counts its calls, for the sentinels to differ from one to the next.
@@ -24,8 +25,7 @@ impl Side for Library {
         let turn = self.0.get();
         self.0.set(turn + 1);
         let mut lending = Lending::new(memory, turn);
-        let state = State { layer: memory.state.layer, nodes: memory.state.nodes };
-        let answer = lending.call(call, state);
+        let answer = lending.call(call, memory.state);
         lending.back(memory)?;
         Ok(answer)
     }

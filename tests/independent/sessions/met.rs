@@ -26,7 +26,7 @@ impl Met {
         self.calls += 1;
         *self.times.entry(key(call.name(), answer.refusal())).or_default() += 1;
         if let Answer::Ran(ran) = answer {
-            *self.times.entry(key("outcome", ran.outcome)).or_default() += 1;
+            *self.times.entry(key("outcome", ran.outcome.0)).or_default() += 1;
         }
     }
 

@@ -3,6 +3,7 @@
 use super::met::Met;
 use super::player::Player;
 use crate::encode::encode;
+use crate::engine::answer::Outcome;
 use crate::engine::memory::{Lent, State, FINISHED, PLACES};
 use crate::host::{Answer, Call, Memory, Side};
 use crate::paper::{same, Checked};
@@ -24,7 +25,7 @@ fn loaded<'a>(program: &Program, size: usize, side: &'a dyn Side, met: &'a mut M
 /// Runs to the finish, and says how many updates that took.
 fn finish(player: &mut Player) -> Result<u64, String> {
     match player.call(Call::Run(262_656))? {
-        Answer::Ran(ran) if ran.outcome == 1 => Ok(ran.updates),
+        Answer::Ran(ran) if ran.outcome == Outcome::FINISHED => Ok(ran.updates),
         other => Err(format!("not finished: {other:?}")),
     }
 }
@@ -72,7 +73,7 @@ pub fn file_s(side: &dyn Side, met: &mut Met) -> Checked {
 pub fn five_nodes(side: &dyn Side, met: &mut Met) -> Checked {
     let mut player = loaded(&worked::s(), S_NODES - 1, side, met)?;
     match player.call(Call::Run(262_656))? {
-        Answer::Ran(ran) => same("P8", (ran.outcome, ran.updates, ran.state.layer), (3, 6, 2))?,
+        Answer::Ran(ran) => same("P8", (ran.outcome, ran.updates, ran.state.layer), (Outcome::FULL, 6, 2))?,
         other => return Err(format!("{other:?}")),
     }
     same("P8 by itself", player.call(Call::Update(5))?.refusal(), 12)?;

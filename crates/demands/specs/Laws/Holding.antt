@@ -2,13 +2,12 @@
 use mathlib.Core.Path.{_≡_, refl, sym, ap, subst, _∙_}
 use mathlib.Core.Bool.{true, false}
 use mathlib.Core.List.{List, [], _∷_, _++_, map, append-nil}
-use Prim.Native.Nat.{ℕ, _-_, _≤_, _<_, min}
+use Prim.Native.Nat.{ℕ, _-_, _≤_, min}
 use native.Mathlib.Omega.{arith}
 use native.Mathlib.Decide.{decLt}
 use lib.Dec.{T, leb, le→leb}
 use lib.ListN.{
   length,
-  getD,
   take,
   drop,
   replicate,
@@ -17,24 +16,22 @@ use lib.ListN.{
   length-map,
   length-replicate,
   length-take,
-  List·getD-map,
   drop-of-length-le,
   take-append-drop,
 }
-use lib.Seq.{take-all, take-at, drop-at, ext-getD}
+use lib.Seq.{take-all, take-at, drop-at}
 use borrow.Author.Tests.{not-false}
 use Rattle.meaning.specs.Laws.Tests.{T-true}
 use Rattle.format.specs.File.{decode}
 use Rattle.format.specs.Refusals.{verdict}
 use Rattle.format.specs.Laws.Accepted.{Passed}
 use Rattle.format.specs.Laws.Passing.{passed-accepted}
-use Rattle.diagram.specs.Listing.{Node}
-use Rattle.store.specs.Store.{pack, unpack, nodesIn, nowhere, Sound}
-use Rattle.store.specs.Laws.Nodes.{unpack-pack, nodesIn-length}
+use Rattle.store.specs.Store.{pack, Sound}
+use Rattle.store.specs.Laws.Nodes.{nodesIn-length}
 use Rattle.update.specs.Update.{Store}
 use Rattle.rounds.specs.Fit.{Fit}
 use Rattle.state.specs.Answers.{wordsOf}
-use Rattle.state.specs.Laws.Fits.{fits-lent, lent-holds}
+use Rattle.state.specs.Laws.Fits.{fits-lent, lent-holds, holds-store}
 use Rattle.fitting.specs.Fit.{wordsIn, placesIn, passes, storeFits, fitTogether}
 use Rattle.reach.specs.Calls.{fits}
 use Rattle.fitting.specs.Laws.Fit.{fits-store, fits-inner, fits-long}
@@ -116,28 +113,10 @@ holding-filled {h} {k} {st} long used all =
 
 -- ---- the store in it
 
--- the nodes of a sound store are unpacked as they were packed, since their sides fit 13 bits
-unpacked : {n : ℕ} (ns : List Node) → Sound n ns → length ns ≤ 4096 → map unpack (map pack ns) ≡ ns
-unpacked ns s le =
-    let packed : length (map pack ns) ≡ length ns = length-map ns pack in
-    let len : length (map unpack (map pack ns)) ≡ length ns = length-map (map pack ns) unpack ∙ packed in
-    ext-getD nowhere (map unpack (map pack ns)) ns len (λ i lt.
-    let h : i < length ns = omega arith in
-    let low = s .low-below i h in
-    let high = s .high-below i h in
-    List·getD-map unpack (map pack ns) i 0 ∙ ap unpack (List·getD-map pack ns i nowhere) ∙
-    unpack-pack (getD ns i nowhere) (omega arith) (omega arith))
-
 -- the store in hand is the one that was put there
 pub holding-store : {F : ℕ} {h : Hand} {k : ℕ} {st : Store} → Filled h k st → Sound F (st .nodes) → length (st .nodes) ≤ room h →
     store (holding h k st) ≡ st
-holding-store {h = h} {st = st} f sound used =
-    let n : ℕ = length (st .nodes) in
-    let front : List ℕ = map pack (st .nodes) in
-    let same : nodesIn (wordsIn (wordsOf (room h) st ++ drop 4096 (h .nodes))) n ≡ st .nodes =
-    ap (λ l. nodesIn l n) (f .words) ∙ ap (map unpack) (take-at front (replicate (room h - n) 0) n (length-map (st .nodes) pack)) ∙
-    unpacked (st .nodes) sound (omega arith) in
-    λ i. record { nodes = same i; places = f .places-are i }
+holding-store f sound used = holds-store (record { words = f .words; places-are = f .places-are }) sound (omega arith)
 
 -- ---- it fits together
 

@@ -1,6 +1,6 @@
 -- A store that fits the file and N places still does after updates of a layer's atoms, closings and runs.
 use mathlib.Core.Path.{_≡_, sym, subst}
-use mathlib.Core.List.{List, List·Memᴰ, Memᴰ·append-left}
+use mathlib.Core.List.{List, List·Memᴰ}
 use Prim.Native.Nat.{ℕ}
 use Rattle.format.specs.Bytes.{Bytes}
 use Rattle.format.specs.File.{decode}
@@ -9,12 +9,12 @@ use Rattle.rounds.specs.Layers.{atomsOf}
 use Rattle.rounds.specs.Close.{closed, close}
 use Rattle.rounds.specs.Run.{run}
 use Rattle.rounds.specs.Fit.{Fit}
-use Rattle.rounds.specs.Stages.{updateEach, RunAs, Rounds, none, round, closing}
+use Rattle.rounds.specs.Stages.{updateEach, RunAs, Rounds}
 use Rattle.rounds.specs.Laws.Layers.{atoms-derived}
 use Rattle.rounds.specs.Laws.Made.{fit-held, fit-update, fit-next}
 use Rattle.rounds.specs.Laws.Close.{close-only}
 use Rattle.rounds.specs.Laws.Each.{made-room, each-fit}
-use Rattle.rounds.specs.Laws.Stages.{run-as}
+use Rattle.rounds.specs.Laws.Stages.{run-as, rounds-fit, run-fit}
 use Rattle.state.specs.Laws.Fits.{passed-layered}
 use Rattle.demands.specs.Laws.Holding.{Held}
 
@@ -47,9 +47,9 @@ module _ {s : List ℕ} (b : Bytes s) {N : ℕ} where
 
   -- whole rounds,
   pub held-rounds : {k m j : ℕ} {st st₁ : Store} → Held s N k st → Rounds (decode s) N k st m j st₁ → Held s N j st₁
-  held-rounds h none = h
-  held-rounds {k} h (round e d r) = held-rounds (held-each h (atomsOf (decode s) k) (λ a m. m) e) r
-  held-rounds {k} h (closing e d c r) = held-rounds (held-closed (held-each h (atomsOf (decode s) k) (λ a m. m) e) c) r
+  held-rounds h r =
+      let g = rounds-fit (passed-layered (h .passed) b) r (h .fit) (h .used) in
+      record { passed = h .passed; fit = g .0; used = g .1 }
 
   -- a run as it is made of them,
   pub held-as : {k : ℕ} {st : Store} → Held s N k st → (budget : ℕ) → RunAs (decode s) N budget k st (run (decode s) N budget k st)
@@ -58,7 +58,6 @@ module _ {s : List ℕ} (b : Bytes s) {N : ℕ} where
   -- and a run
   pub held-run : {k : ℕ} {st : Store} → Held s N k st → (budget : ℕ) →
       Held s N (run (decode s) N budget k st .layer) (run (decode s) N budget k st .store)
-  held-run {k} {st} h budget =
-      let r = held-as h budget in
-      held-each (held-rounds h (r .rounds)) (r .begun)
-      (λ a m. rw (r .order) (Memᴰ·append-left (r .rest) m)) (r .part)
+  held-run h budget =
+      let g = run-fit (passed-layered (h .passed) b) N budget (h .fit) (h .used) in
+      record { passed = h .passed; fit = g .0; used = g .1 }

@@ -9,7 +9,7 @@ use native.Mathlib.Decide.{decLt}
 use lib.Dec.{T, eqb, eqb→eq}
 use lib.ListN.{length, getD, take, drop, length-take}
 use lib.Seq.{length-take-le, take-all}
-use borrow.Author.Tests.{le-leb, le-ltb, not-true, not-false}
+use borrow.Author.Tests.{le-leb, not-true, not-false}
 use Rattle.meaning.specs.Lists.{all}
 use Rattle.meaning.specs.Meaning.{atoms, layerOf}
 use Rattle.meaning.specs.Laws.Tests.{T-or-left, T-or-right, T-or-cases, T-true, T-false, eqb-of}
@@ -26,6 +26,7 @@ use Rattle.store.specs.Laws.Nodes.{pack-unpack, unpack-pack, nodesIn-at}
 use Rattle.rounds.specs.Layers.{finishedLayer, hasAtoms}
 use Rattle.rounds.specs.Load.{factNode}
 use Rattle.state.specs.Inner.{Sized}
+use Rattle.state.specs.Laws.Layers.{listed}
 use Rattle.fitting.specs.Fit.{asLoaded, inUse, storeFits, fitTogether}
 use Rattle.fitting.specs.Inner.{FitAsked}
 use Rattle.fitting.specs.Laws.FitParts.{any-at, any-place, zeros-all, zeros-each, used-all, used-each, loaded-all, loaded-each}
@@ -93,13 +94,6 @@ module _ {s : List ℕ} {facts derived : ℕ} (z : Sized s facts derived) (layer
   abbrev work : Bool
   work = eqb layer finishedLayer || hasAtoms (decode s) layer
 
-  -- a derived atom's layer stands at its place
-  listed : (a : ℕ) → facts ≤ a → layerOf (decode s) a ≡ getD (decode s .layers) (a - facts) 0
-  unfolding layerOf
-  listed a h =
-      let e : length (decode s .facts) ≡ facts = decode-facts s ∙ sym (z .facts-are) in
-      rw (e, le-ltb a facts h) refl
-
   -- the run is finished,
   pub work-finished : layer ≡ 65535 → true ≡ work
   work-finished e = yes-is (T-or-left (eqb layer finishedLayer) (hasAtoms (decode s) layer) (eqb-of e))
@@ -110,7 +104,7 @@ module _ {s : List ℕ} {facts derived : ℕ} (z : Sized s facts derived) (layer
   work-found a le lt e q =
       let inside : a - facts < length (decode s .layers) = omega (arith, decode-layers s, z .derived-are) in
       yes-is (T-or-right (eqb layer finishedLayer) (hasAtoms (decode s) layer)
-      (any-at (eqb layer) 0 (decode s .layers) (a - facts) inside (eqb-of (sym q ∙ e ∙ listed a le))))
+      (any-at (eqb layer) 0 (decode s .layers) (a - facts) inside (eqb-of (sym q ∙ e ∙ listed z a le))))
 
   -- or none is
   pub work-none :
@@ -122,7 +116,7 @@ module _ {s : List ℕ} {facts derived : ℕ} (z : Sized s facts derived) (layer
         let (i, lt, e) = any-place (eqb layer) 0 (decode s .layers) q in
         let back : facts + i - facts ≡ i = omega arith in
         h (facts + i) (omega (arith, decode-layers s, z .derived-are)) (omega arith)
-        (listed (facts + i) (omega arith) ∙ rw back (sym (eqb→eq layer _ e)))
+        (listed z (facts + i) (omega arith) ∙ rw back (sym (eqb→eq layer _ e)))
   ])
 
 -- ---- the store

@@ -37,13 +37,13 @@ use Rattle.fitting.specs.Fit.{asLoaded, obeys, inUse}
 
 module _ {A : Type 0} (f : A → Bool) (d : A) where
   -- `all` passes where every place does,
-  all-at : (l : List A) → ((i : ℕ) → i < length l → T (f (getD l i d))) → T (all f l)
+  pub all-at : (l : List A) → ((i : ℕ) → i < length l → T (f (getD l i d))) → T (all f l)
   unfolding all
   all-at [] h = tt
   all-at (x ∷ l) h = T-and (f x) (all f l) (h 0 (omega arith)) (all-at l (λ i lt. h (suc i) (omega arith)))
 
   -- and then each place does;
-  all-each : (l : List A) → T (all f l) → (i : ℕ) → i < length l → T (f (getD l i d))
+  pub all-each : (l : List A) → T (all f l) → (i : ℕ) → i < length l → T (f (getD l i d))
   unfolding all
   all-each [] t i h = absurd (omega arith)
   all-each (x ∷ l) t zero h = T-and-left (f x) (all f l) t

@@ -5,7 +5,7 @@ use mathlib.Core.Logic.{_⊎_, inl, inr, _↔_}
 use mathlib.Core.Bool.{Bool, true, false}
 use mathlib.Core.List.{List, _∷_, _++_, List·Memᴰ, List·Memᴰ·tail, List·Memᴰ·cases-cons}
 use mathlib.Core.List.{Memᴰ·append-left, Memᴰ·append-right, List·Memᴰ·append-cases}
-use Prim.Native.Nat.{ℕ, zero, suc, _≤_, _<_}
+use Prim.Native.Nat.{ℕ, zero, suc, _≤_}
 use native.Mathlib.Omega.{arith}
 use lib.Dec.{T, T-not}
 use lib.ListN.{length}
@@ -108,15 +108,6 @@ pub record Match (Q : Program) (r : Rule) : Type 0 where
   pub same-head : rule .head ≡ r .head
   pub same-body : SameBody (r .body) (rule .body)
 
--- a rule of Q is its own match
-pub itself : {Q : Program} {r : Rule} → List·Memᴰ r (Q .rules) → Match Q r
-itself {r = r} m = record {
-  rule = r;
-  listed = m;
-  same-head = refl;
-  same-body = record { there = λ l i. i; back = λ l i. i };
-}
-
 -- Q has each rule of P whose head lies in layer k or lower
 abbrev pub Within : ℕ → Program → Program → Type 0
 Within k P Q = (r : Rule) → List·Memᴰ r (P .rules) → layerOf P (r .head) ≤ k → Match Q r
@@ -151,26 +142,6 @@ pub rules-order-and-repeats : {P Q : Program} → SameAtoms P Q →
     ((r : Rule) → List·Memᴰ r (P .rules) → Match Q r) → ((r : Rule) → List·Memᴰ r (Q .rules) → Match P r) →
     (a : ℕ) (c : Choice) → length c ≡ length (P .facts) → holds P a c ≡ holds Q a c
 rules-order-and-repeats {P} s v w a c z = rules-below {k = layerOf P a} s (λ r m h. v r m) (λ r m h. w r m) a (omega arith) c z
-
--- rules of layers above k, added anywhere, change no atom of layer k or lower
-pub higher-rules : (P : Program) (rs : List Rule) (k : ℕ) → ((r : Rule) → List·Memᴰ r (P .rules) → List·Memᴰ r rs) →
-    ((r : Rule) → List·Memᴰ r rs → List·Memᴰ r (P .rules) ⊎ (k < layerOf P (r .head))) →
-    (a : ℕ) → layerOf P a ≤ k → (c : Choice) → length c ≡ length (P .facts) → holds P a c ≡ holds (withRules P rs) a c
-higher-rules P rs k old new = rules-below (with-atoms P rs) (λ r m h. itself (old r m)) (λ r m h. go r h (new r m))
-  where
-    go : (r : Rule) → layerOf (withRules P rs) (r .head) ≤ k → List·Memᴰ r (P .rules) ⊎ (k < layerOf P (r .head)) → Match P r
-    go r h (inl m) = itself m
-    go r h (inr d) = absurd (omega (arith, same-layer (with-atoms P rs) (r .head)))
-
--- in particular added at the end
-pub higher-rules-last : (P : Program) (more : List Rule) (k : ℕ) → ((r : Rule) → List·Memᴰ r more → k < layerOf P (r .head)) →
-    (a : ℕ) → layerOf P a ≤ k → (c : Choice) → length c ≡ length (P .facts) → holds P a c ≡ holds (withRules P (P .rules ++ more)) a c
-higher-rules-last P more k high =
-    higher-rules P (P .rules ++ more) k (λ r. Memᴰ·append-left more) (λ r m. go r (List·Memᴰ·append-cases (P .rules) m))
-  where
-    go : (r : Rule) → List·Memᴰ r (P .rules) ⊎ List·Memᴰ r more → List·Memᴰ r (P .rules) ⊎ (k < layerOf P (r .head))
-    go r (inl m) = inl m
-    go r (inr m) = inr (high r m)
 
 -- ---- an atom beside its own negation
 

@@ -16,11 +16,11 @@ unfoldable pub count : (ℕ → Bool) → List ℕ → ℕ
 count p [] = 0
 count p (a ∷ l) = cond (p a) 1 0 + count p l
 
-bit-le : (b : Bool) → cond b 1 0 ≤ 1
+pub bit-le : (b : Bool) → cond b 1 0 ≤ 1
 bit-le true = omega arith
 bit-le false = omega arith
 
-bit-mono : (a b : Bool) → (T a → T b) → cond a 1 0 ≤ cond b 1 0
+pub bit-mono : (a b : Bool) → (T a → T b) → cond a 1 0 ≤ cond b 1 0
 bit-mono true true s = omega arith
 bit-mono true false s = absurd (s tt)
 bit-mono false b s = omega arith

@@ -12,6 +12,7 @@ use lib.ListN.{length, length-append}
 use borrow.Author.Tests.{leb-true, le-leb, lt-leb, ne-eqb}
 use Rattle.meaning.specs.Lists.{upto, sum}
 use Rattle.meaning.specs.Meaning.{Program, atoms, Layered}
+use Rattle.meaning.specs.Laws.Settle.{bit-le}
 use Rattle.update.specs.Update.{Store}
 use Rattle.update.specs.Laws.Held.{present}
 use Rattle.rounds.specs.Layers.{finishedLayer, nextLayer, hasAtoms, atomsFrom, atomsOf}
@@ -145,10 +146,6 @@ module _ {P : Program} (w : Layered P) (room : atoms P ≤ 544) where
 
 -- ---- the most that all layers cost
 
-bit-most : (b : Bool) → cond b 1 0 ≤ 1
-bit-most true = omega arith
-bit-most false = omega arith
-
 -- the layers' lists together are no longer than the list of derived atoms: each atom is in one of them at most
 atoms-most : (n a : ℕ) (ls : List ℕ) → sum (upto n (λ j. length (atomsFrom j a ls))) ≤ length ls
 unfolding atomsFrom
@@ -161,7 +158,7 @@ atoms-most n a (l ∷ ls) =
       sum-mono n (λ j. length (atomsFrom j a (l ∷ ls))) (λ j. own j + rest j) (λ j. go (eqb l j) (atomsFrom j (suc a) ls)),
       sum-add n own rest,
       sum-one n own l (λ j e. rw (ne-eqb l j e) refl),
-      bit-most (eqb l l),
+      bit-le (eqb l l),
       atoms-most n (suc a) ls,
     )
   where

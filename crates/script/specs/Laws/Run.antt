@@ -2,34 +2,22 @@
 -- The words after the nodes are zeros throughout, since a building leaves them, and what had no room is taken back.
 use mathlib.Core.Path.{_≡_, refl, sym, ap, ap₂, _∙_}
 use mathlib.Core.Bool.{Bool, true, false}
-use mathlib.Core.List.{List, [], _∷_, _++_, map, append-nil}
+use mathlib.Core.List.{List, [], _∷_, _++_}
 use Prim.Native.Nat.{ℕ, suc, _+_, _-_, _*_, _/_, _≤_, _<_}
 use native.Mathlib.Omega.{arith}
 use native.Mathlib.Decide.{decLt}
 use native.Mathlib.Numerals.{add-one}
 use lib.Dec.{ltb}
-use lib.ListN.{
-  length,
-  getD,
-  take,
-  drop,
-  set,
-  replicate,
-  length-append,
-  length-map,
-  length-drop,
-  length-set,
-  length-replicate,
-  replicate-append-replicate,
-  take-append-drop,
-  drop-of-length-le,
-}
-use lib.Seq.{length-take-le, take-suc-set, drop-set-lt, drop-drop, drop-at, getD-set-same, getD-set-other}
+use lib.ListN.{length, getD, take, drop, set, replicate, length-set, length-replicate, take-append-drop}
+use lib.Seq.{length-take-le, take-suc-set, drop-set-lt, drop-drop, getD-set-same, getD-set-other}
 use borrow.Author.Tests.{lt-ltb, le-ltb}
 use Rattle.diagram.specs.Listing.{Numbered, number}
-use Rattle.store.specs.Store.{pack, nodesIn, Sound}
+use Rattle.store.specs.Store.{nodesIn}
 use Rattle.store.specs.Calls.{zeroed}
 use Rattle.store.specs.Laws.Nodes.{pack-unpack-all, nodesIn-length}
+use Rattle.store.specs.Laws.Tree.{none-sound}
+use Rattle.store.specs.Laws.Filled.{filled-length, filled-drop}
+use Rattle.store.specs.Laws.Code.{zeroed-all, zeros-later, words-back-all}
 use Rattle.store.specs.declared.Built.{Built}
 use Rattle.store.specs.declared.Built.the-variants as built
 use Rattle.combine.specs.Live.{Live}
@@ -92,34 +80,6 @@ pub record Standing (N : ℕ) (s lent nodes memo image results : List ℕ) (coun
   pub few : made ≤ steps s (length lent)
   pub left : ran N s (length lent) ≡ runFrom N s (steps s (length lent) - made) made (stateIn nodes count results made)
 
-sound-none : Sound 32 []
-sound-none = record {
-  fact-below = λ i h. absurd (omega arith);
-  low-below = λ i h. absurd (omega arith);
-  high-below = λ i h. absurd (omega arith);
-  low-rises = λ i h. absurd (omega arith);
-  high-rises = λ i h. absurd (omega arith);
-  sides-differ = λ i h. absurd (omega arith);
-  once = λ i j h. absurd (omega arith);
-}
-
-cleared : (ws : List ℕ) (N : ℕ) → N ≡ length ws → zeroed ws 0 N ≡ replicate N 0
-cleared ws N e =
-    let z : N - 0 ≡ N = omega arith in
-    rw (z, drop-of-length-le ws {i = N} (omega arith)) (append-nil (replicate N 0))
-
--- where zeros stand from one place on, they stand from each later one
-zeros-later : (ws : List ℕ) (count c N : ℕ) → count ≤ c → c ≤ N →
-    drop count ws ≡ replicate (N - count) 0 → drop c ws ≡ replicate (N - c) 0
-zeros-later ws count c N le fits e =
-    let on : count + (c - count) ≡ c = omega arith in
-    let all : N - count ≡ (c - count) + (N - c) = omega arith in
-    let rest : drop (c - count) (drop count ws) ≡ drop c ws = drop-drop (c - count) count ws ∙ ap (λ i. drop i ws) on in
-    let front : List ℕ = replicate (c - count) 0 in
-    let zeros : replicate (N - count) 0 ≡ front ++ replicate (N - c) 0 =
-    rw all (sym (replicate-append-replicate {A = ℕ} (c - count) (N - c) 0)) in
-    sym rest ∙ ap (drop (c - count)) (e ∙ zeros) ∙ drop-at front (replicate (N - c) 0) (c - count) (length-replicate {A = ℕ} (c - count) 0)
-
 -- at the start nothing is built
 pub nothing-yet : (s lent ws : List ℕ) (N : ℕ) → N ≡ length ws → N ≤ 4096 →
     Standing N s lent (zeroed ws 0 N) (replicate 4096 0) (replicate 4098 0) lent 0 0
@@ -129,9 +89,9 @@ nothing-yet s lent ws N e small =
     let table = length-replicate {A = ℕ} 4096 0 in
     let z : N - 0 ≡ N = omega arith in
     let all : steps s (length lent) - 0 ≡ steps s (length lent) = omega arith in
-    rw (cleared ws N e) (record {
+    rw (zeroed-all ws N e) (record {
       live = record {
-        ready = record { room = omega arith; used = omega arith; sound = sound-none };
+        ready = record { room = omega arith; used = omega arith; sound = none-sound 32 };
         some = omega arith;
         small = omega arith;
         combinations = memo-zero [] 4096;
@@ -216,7 +176,8 @@ module _ {N : ℕ} {s lent nodes memo image results : List ℕ} {count made : �
           let b = turn-full nodes grown memo₁ image₁ count (number (nodesIn nodes count) (builds state o x y)) w turned is in
           let over : N < length (number (nodesIn nodes count) (builds state o x y) .nodes) = omega (arith, b .over, at .size) in
           let back : zeroed grown count N ≡ nodes =
-          rw (b .kept, drop-of-length-le grown {i = N} (omega arith), append-nil {A = ℕ} (replicate (N - count) 0)) (sym words-now) in
+          rw long at (words-back-all nodes grown count (at .live .ready .used) (long ∙ sym (at .size)) (b .kept)
+          (rw (← at .size) at (at .zeros))) in
           ended entry (zeroed grown count N) size back (full state) (left-by v (lt-ltb N _ over)) refl
           (ap₂ end.Full (sym results-long) (sym nodes-long))
 
@@ -230,15 +191,13 @@ module _ {N : ℕ} {s lent nodes memo image results : List ℕ} {count made : �
           let le = grew-le (at .live .ready .used) g in
           let few = steps-few s (length lent) .1 in
           let here : made < length results = omega (arith, at .long) in
-          let packed : length (map pack (grown .nodes)) ≡ c = length-map (grown .nodes) pack ∙ sym (g .filled .count) in
           let fits = g .filled .fits in
           let rest : drop c nodes ≡ replicate (N - c) 0 = zeros-later nodes count c N le (omega (arith, at .size)) (at .zeros) in
-          let same : length exit ≡ N = rw (g .filled .words) (simp (length-append, length-drop) (omega (arith, at .size))) in
           record {
             live = g .live;
             memo-size = table;
-            size = same;
-            zeros = rw (g .filled .words) (drop-at (map pack (grown .nodes)) (drop c nodes) c packed ∙ rest);
+            size = filled-length (g .filled) ∙ at .size;
+            zeros = filled-drop (g .filled) c (omega arith) ∙ rest;
             inside = λ i lt. elim (decLt i made) [
               | yes b ↦ rw (getD-set-other results made i n 0 (λ e. omega arith)) (omega (arith, at .inside i b))
               | no b ↦ let e : i ≡ made = omega arith in rw (e, getD-set-same results made n 0 here) (g .inside)
