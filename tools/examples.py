@@ -4,6 +4,7 @@
   p9.reach       001's example (P9): facts 3/7 and 2/8, wet if either
   p11.reach      000's graph (P11): edges ba, bc, ac, ca, each 1/1; a path is an edge, or an edge and then a path
   refused.reach  file S with the first literal of rule 2 changed to atom 6, which there is not
+  chain.reach    x_i if x_(i+1) for i below 511; x_511 if not x_1; x_511 if x_0: no layers, and the shortest chain through x_0 has 1,023 rules
   full.reach     24 facts of 1/1; atom 24 if 0 in layer 1; atom 25 if i and i + 12, for each i below 12, in layer 2: over 8,000 nodes
 """
 import struct
@@ -11,13 +12,14 @@ import sys
 
 
 def encode(facts, layers, rules):
+    """A literal is an atom, or its negative if negated (atom 0 is negated nowhere here)."""
     offsets = (28, 28 + 4 * len(facts), 28 + 4 * len(facts) + len(layers))
     out = struct.pack("<HH", 1, 3)
     for kind, items in enumerate((facts, layers, rules)):
         out += struct.pack("<HHI", kind + 1, len(items), offsets[kind])
     out += b"".join(struct.pack("<HH", on, off) for on, off in facts) + bytes(layers)
     for head, body in rules:
-        out += struct.pack("<HH", head, len(body)) + b"".join(struct.pack("<H", 2 * atom) for atom in body)
+        out += struct.pack("<HH", head, len(body)) + b"".join(struct.pack("<H", 2 * atom if atom >= 0 else -2 * atom + 1) for atom in body)
     return out
 
 
@@ -39,6 +41,7 @@ files = {
     "p9": encode([(3, 7), (2, 8)], [1], [(2, [0]), (2, [1])]),
     "p11": graph(),
     "refused": damaged(),
+    "chain": encode([], [1] * 512, [(i, [i + 1]) for i in range(511)] + [(511, [-1]), (511, [0])]),
     "full": encode([(1, 1)] * 24, [1, 2], [(24, [0])] + [(25, [i, i + 12]) for i in range(12)]),
 }
 for name, data in files.items():

@@ -37,10 +37,10 @@ pub fn groups(scale: u64) -> Vec<Group> {
 }
 
 /// Made only when the group's turn comes, so that not all files lie in memory at once.
-fn fixed(name: &'static str, make: fn() -> Vec<Vec<u8>>) -> Group {
+pub fn fixed(name: &'static str, make: fn() -> Vec<Vec<u8>>) -> Group {
     Group { name, files: Box::new(std::iter::once_with(make).flatten()) }
 }
 
-fn by_chance(name: &'static str, count: u64, make: fn(u64) -> Vec<u8>) -> Group {
+pub fn by_chance(name: &'static str, count: u64, make: fn(u64) -> Vec<u8>) -> Group {
     Group { name, files: Box::new((0..count).map(make)) }
 }

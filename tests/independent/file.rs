@@ -1,4 +1,4 @@
-//! Reads a program file and gives refusals 1 to 11 in the order of document 01.
+//! Reads a program file and gives refusals 1 to 11 in the order of document 01, or all but 11, as request L4 has it.
 //!
 //! Every number is read from the bytes each time it is needed, so each test below stands for itself and can
 //! change places with another; `Mutant::None` is the honest reader.
@@ -21,17 +21,29 @@ type RuleTest<'a> = fn(&Reader<'a>, usize, usize) -> Tested;
 struct Reader<'a> {
     bytes: &'a [u8],
     mutant: Mutant,
+    /// Whether the literals are held against the given layers.
+    eleven: bool,
 }
 
 pub fn decode(bytes: &[u8]) -> Result<Program, Refusal> {
-    let reader = Reader { bytes, mutant: Mutant::None };
+    let reader = Reader { bytes, mutant: Mutant::None, eleven: true };
     reader.test()?;
+    Ok(reader.program())
+}
+
+/// With 11 left out: a literal that breaks the given layers is no fault and hides none behind it.
+pub fn decode_without_eleven(bytes: &[u8], mutant: Mutant) -> Result<Program, Refusal> {
+    let reader = Reader { bytes, mutant, eleven: mutant == Mutant::ElevenKept || mutant == Mutant::ElevenEndsTests };
+    match reader.test() {
+        Err(refusal) if refusal.number == 11 && mutant == Mutant::ElevenEndsTests => {}
+        tested => tested?,
+    }
     Ok(reader.program())
 }
 
 /// What reach_read should answer.
 pub fn counts(bytes: &[u8], mutant: Mutant) -> Counts {
-    let reader = Reader { bytes, mutant };
+    let reader = Reader { bytes, mutant, eleven: true };
     match reader.test() {
         Ok(()) => reader.accepted(),
         Err(refusal) => reader.refused(refusal),
@@ -242,7 +254,7 @@ impl<'a> Reader<'a> {
     fn test_facts(&self) -> Tested {
         let refused = |fact: &usize| {
             let (on, off) = self.fact(*fact);
-            on + off == 0 || self.is(Mutant::EitherWeightZero) && on * off == 0
+            on + off == 0 && !self.is(Mutant::WeightsUntested) || self.is(Mutant::EitherWeightZero) && on * off == 0
         };
         let mut facts = 0..self.items(0);
         let found = if self.is(Mutant::LastFactNamed) { facts.rfind(refused) } else { facts.find(refused) };
@@ -250,12 +262,12 @@ impl<'a> Reader<'a> {
     }
 
     fn test_total(&self) -> Tested {
-        self.refuse(self.total().is_none(), 6, 0)
+        self.refuse(self.total().is_none() && !self.is(Mutant::WeightsUntested), 6, 0)
     }
 
     fn test_layers(&self) -> Tested {
         let refused = |derived: &usize| match self.layer_byte(*derived) {
-            0 => true,
+            0 => !self.is(Mutant::GivenLayersUntested),
             255 => self.is(Mutant::LayerTopRefused),
             layer => self.is(Mutant::LayerGapRefused) && layer > 1 && !self.layer_used(layer - 1),
         };
@@ -339,7 +351,12 @@ impl<'a> Reader<'a> {
         }
         for literal in literals {
             self.test_known(rule, literal)?;
-            self.test_layer(rule, head, literal)?;
+            if self.eleven {
+                self.test_layer(rule, head, literal)?;
+            }
+            if self.is(Mutant::ElevenEndsBody) && self.test_layer(rule, head, literal).is_err() {
+                break;
+            }
         }
         Ok(())
     }

@@ -1,4 +1,5 @@
-//! The independent test program: written from document 01 and reach.h alone, it shares no line with the library.
+//! The independent test program: written from documents 01 and 02 and reach.h alone, it shares no line with the
+//! library.
 //!
 //!     rustc --edition 2021 -O -D warnings tests/independent/main.rs \
 //!         -L native=target/staticlib -l static=reach -o target/tests/independent
@@ -19,6 +20,12 @@
 //!
 //! The first makes only the tests of whole sessions through the boundary, at scale 1. The second
 //! plays sessions through the boundary until stopped, or so many, and prints how far it is and all that differs.
+//!
+//!     target/tests/independent layers [SCALE]
+//!     target/tests/independent layers-judge FILE TEXT
+//!
+//! The first makes only the tests of request L4. The second ends with status 0 if TEXT holds what the program `layers`
+//! may print for the program file FILE, else it says why not and ends with 1.
 
 mod boundary;
 mod builds;
@@ -30,6 +37,7 @@ mod encode;
 mod engine;
 mod file;
 mod host;
+mod layers;
 mod legal;
 mod model;
 mod mutants;
@@ -56,6 +64,8 @@ fn main() {
         Some("runs-output") => print(engine::output().as_bytes()),
         Some("--long") => long(),
         Some("sessions") => only_sessions(),
+        Some("layers") => only_layers(),
+        Some("layers-judge") => judge_layers(),
         None => test(1),
         Some(text) => test(scale(text)),
     }
@@ -81,6 +91,7 @@ fn test(scale: u64) {
     report.add("corpus: every refusal met", met.every_answer());
     report_mutants(&mut report, met);
     sessions::check(&mut report, scale);
+    layers::check(&mut report, scale);
     exit(if report.finish() { 0 } else { 1 });
 }
 
@@ -97,8 +108,26 @@ fn only_sessions() {
     exit(if report.finish() { 0 } else { 1 });
 }
 
+fn only_layers() {
+    let mut report = Report::default();
+    layers::check(&mut report, number(2, 1));
+    exit(if report.finish() { 0 } else { 1 });
+}
+
+fn judge_layers() {
+    let name = |at: usize| std::env::args().nth(at).unwrap_or_default();
+    if let Err(told) = layers::judge_files(&name(2), &name(3)) {
+        eprintln!("{told}");
+        exit(1);
+    }
+}
+
+/// An argument of the command line.
+fn number(at: usize, default: u64) -> u64 {
+    std::env::args().nth(at).map_or(default, |text| scale(&text))
+}
+
 fn long() {
-    let number = |at: usize, default: u64| std::env::args().nth(at).map_or(default, |text| scale(&text));
     exit(if sessions::long(number(2, 1), number(3, u64::MAX)) { 0 } else { 1 });
 }
 

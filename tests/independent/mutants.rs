@@ -84,6 +84,17 @@ pub enum Mutant {
     CountsWithRefusal,
     TotalWithRefusal,
     DerivedCountsFacts,
+
+    // Request L4: "after loading's refusals through the leftover test, 11 left out".
+    ElevenKept,
+    /// A literal that breaks the given layers ends the tests of its body.
+    ElevenEndsBody,
+    /// It ends all tests.
+    ElevenEndsTests,
+    /// 5 and 6 left out, too.
+    WeightsUntested,
+    /// 7 left out, too.
+    GivenLayersUntested,
 }
 
 pub fn all() -> Vec<Mutant> {
@@ -132,6 +143,18 @@ fn single() -> Vec<Mutant> {
     let repeats = [RepeatedRuleRefused, RepeatedLiteralRefused, OwnNegationRefused];
     let answers = [CountsWithRefusal, TotalWithRefusal, DerivedCountsFacts];
     [&contents[..], &facts, &layers, &shapes, &heads, &literals, &repeats, &answers].concat()
+}
+
+/// Those that show in reach_layers: it has none of the counts that reach_read answers, and no 11 to get wrong.
+pub fn without_eleven() -> Vec<Mutant> {
+    use Mutant::*;
+    let of_counts = [TotalOfNoFactsZero, CountsWithRefusal, TotalWithRefusal, DerivedCountsFacts];
+    let of_layers = [SignReversed, EqualNegatedTaken, EqualPositiveRefused, LayersSigned, FactsInLayerOne];
+    // Without 11, a bad head and a bad literal of one rule give the same.
+    let of_orders = [Detail(11), RuleOrder(3), TensBeforeElevens, ElevensBeforeTens, LastLiteralFirst];
+    let hidden = [&of_counts[..], &of_layers, &of_orders].concat();
+    let own = [ElevenKept, ElevenEndsBody, ElevenEndsTests, WeightsUntested, GivenLayersUntested];
+    all().into_iter().filter(|mutant| !hidden.contains(mutant)).chain(own).collect()
 }
 
 /// The mutants that no file has shown yet, and where the others showed first.

@@ -1,5 +1,6 @@
 -- What the parts of the check ask and find.
 use mathlib.Core.Path.{_≡_}
+use mathlib.Core.Bool.{Bool}
 use mathlib.Core.List.{List}
 use Prim.Native.Nat.{ℕ, _+_, _≤_, _<_}
 use lib.ListN.{length}
@@ -70,6 +71,6 @@ pub record LiteralAsked (s : List ℕ) (facts derived rule : ℕ) : Type 0 where
   pub counted : Counted s facts derived
   pub below : rule < R s
 
--- the first fault of a literal, for each head of layer `top`
-pub record LiteralRead (s : List ℕ) (rule top lit : ℕ) (r : Found) : Type 0 where
-  pub answers : (h : ℕ) → top ≡ layerOf (decode s) h → Answers (literalTests (decode s) rule h (literal lit)) r
+-- the first fault of a literal, for each head of layer `top`; where not layered, breaking the layers is none
+pub record LiteralRead (layered : Bool) (s : List ℕ) (rule top lit : ℕ) (r : Found) : Type 0 where
+  pub answers : (h : ℕ) → top ≡ layerOf (decode s) h → Answers (literalTests layered (decode s) rule h (literal lit)) r

@@ -1,5 +1,5 @@
 -- When a file is refused, with what number and detail (document 01, "Refusal numbers", 1 to 11), in the order "Loading: ..".
-use mathlib.Core.Bool.{Bool, not, _&&_, cond}
+use mathlib.Core.Bool.{Bool, true, not, _&&_, cond}
 use mathlib.Core.List.{List, [], _∷_, _++_, flatten}
 use Prim.Native.Nat.{ℕ, _+_}
 use lib.Dec.{eqb, ltb, leb}
@@ -116,10 +116,10 @@ layerTest s i = test (eqb (byte s (layersAt s + i)) 0) (Layerless (F s + i)) ∷
 unfoldable pub breaks : Program → ℕ → Literal → Bool
 breaks P h l = cond (l .negated) (leb (layerOf P h) (layerOf P (l .atom))) (ltb (layerOf P h) (layerOf P (l .atom)))
 
--- a literal of rule j, with head h: "10 then 11"
-unfoldable pub literalTests : Program → ℕ → ℕ → Literal → List Test
+-- a literal of rule j, with head h: "10 then 11"; where not layered, "loading's refusals through the leftover test, 11 left out"
+unfoldable pub literalTests : Bool → Program → ℕ → ℕ → Literal → List Test
 unfolding breaks
-literalTests P j h l = test (leb (atoms P) (l .atom)) (Unknown j) ∷ test (breaks P h l) (Layers j) ∷ []
+literalTests layered P j h l = test (leb (atoms P) (l .atom)) (Unknown j) ∷ test (layered && breaks P h l) (Layers j) ∷ []
 
 -- rule j, at `at`: "header (8), length (9), body present (8), head (10)"
 unfoldable pub headTests : List ℕ → ℕ → ℕ → List Test
@@ -136,25 +136,30 @@ unfolding upto flatten
 each n f = flatten (upto n f)
 
 -- "literals in order (10 then 11)"
-unfoldable pub ruleTests : List ℕ → ℕ → List Test
+unfoldable pub ruleTests : Bool → List ℕ → ℕ → List Test
 unfolding headTests literalTests each
-ruleTests s j =
+ruleTests layered s j =
     headTests s j (startOf s j) ++
-    each (u16 s (startOf s j + 2)) (λ i. literalTests (decode s) j (u16 s (startOf s j)) (literalAt s (startOf s j) i))
+    each (u16 s (startOf s j + 2)) (λ i. literalTests layered (decode s) j (u16 s (startOf s j)) (literalAt s (startOf s j) i))
 
 -- "rules in file order, each: ..; leftover (8)"
-unfoldable pub rulesTests : List ℕ → List Test
+unfoldable pub rulesTests : Bool → List ℕ → List Test
 unfolding ruleTests each
-rulesTests s = each (R s) (ruleTests s) ++ (test (ltb (startOf s (R s)) (length s)) (Broken (R s)) ∷ [])
+rulesTests layered s = each (R s) (ruleTests layered s) ++ (test (ltb (startOf s (R s)) (length s)) (Broken (R s)) ∷ [])
 
 -- "Loading: 1 to 7 in order; then rules in file order"
-unfoldable pub fileTests : List ℕ → List Test
+unfoldable pub fileTests : Bool → List ℕ → List Test
 unfolding lengthTests contentsTests countsTests offsetTests factTest totalTests layerTest rulesTests each
-fileTests s =
+fileTests layered s =
     lengthTests s ++ (contentsTests s ++ (countsTests s ++ (offsetTests s ++
-    (each (F s) (factTest s) ++ (totalTests s ++ (each (D s) (layerTest s) ++ rulesTests s))))))
+    (each (F s) (factTest s) ++ (totalTests s ++ (each (D s) (layerTest s) ++ rulesTests layered s))))))
 
--- what the check of a file says
-unfoldable pub verdict : List ℕ → Verdict
+-- what the check of a file says, with 11 or without
+unfoldable pub verdictBy : Bool → List ℕ → Verdict
 unfolding first fileTests
-verdict s = first (fileTests s) (Accepted (F s) (D s) (R s) (total (decode s .facts)))
+verdictBy layered s = first (fileTests layered s) (Accepted (F s) (D s) (R s) (total (decode s .facts)))
+
+-- what loading's check says
+unfoldable pub verdict : List ℕ → Verdict
+unfolding verdictBy
+verdict s = verdictBy true s

@@ -8,7 +8,8 @@ ghost use mathlib.Core.Path.{_≡_};
 ghost use Prim.Native.Nat.{_+_, _*_, _<_, _≤_};
 ghost use lib.ListN.{length};
 ghost use Rattle.format.specs.File.{F, D, R};
-ghost use Rattle.format.specs.Refusals.{verdict, contentsTests, countsTests, offsetTests, factTest, layerTest, rulesTests, each};
+ghost use Rattle.format.specs.Refusals.{verdict, verdictBy};
+ghost use Rattle.format.specs.Refusals.{contentsTests, countsTests, offsetTests, factTest, layerTest, rulesTests, each};
 ghost use Rattle.format.specs.Checked.{Answers, Framed, Weighted, Counted, Totalled};
 ghost use Rattle.format.specs.Checked.{LayerOf, HeaderAsked, HeaderRead, LiteralAsked, LiteralRead};
 
@@ -30,9 +31,16 @@ enum Head {
     Bad(Refusal),
 }
 
-// The whole check.
+// What loading tests.
 pub fn check(file: &[u8]) -> Verdict
     ensures { λ r. ⌜ r ≡ verdict (now (file .entry)) ⌝ }
+{
+    check_by(file, true)
+}
+
+// The whole check; 11 is left out where it is not `layered`.
+pub fn check_by(file: &[u8], layered: bool) -> Verdict
+    ensures { λ r. ⌜ r ≡ verdictBy layered (now (file .entry)) ⌝ }
 {
     if file.len() < 28 {
         return Verdict::Refused(Refusal::Length);
@@ -61,7 +69,7 @@ pub fn check(file: &[u8]) -> Verdict
     if let Found::Fault(w) = layerless(file, facts, derived) {
         return Verdict::Refused(w);
     }
-    if let Found::Fault(w) = misruled(file, facts, derived, rules) {
+    if let Found::Fault(w) = misruled(file, facts, derived, rules, layered) {
         return Verdict::Refused(w);
     }
     Verdict::Accepted {
@@ -224,27 +232,35 @@ fn header(file: &[u8], facts: usize, derived: usize, rule: usize, at: usize) -> 
     Head::Rule { top, end }
 }
 
-// 10 and 11 of a literal of a rule whose head is of layer `top`.
-fn literal(file: &[u8], facts: usize, derived: usize, rule: usize, top: usize, lit: usize) -> Found
+// 10 and 11 of a literal of a rule whose head is of layer `top`. `&` spares a branch for `layered`.
+fn literal(
+    file: &[u8],
+    facts: usize,
+    derived: usize,
+    rule: usize,
+    top: usize,
+    lit: usize,
+    layered: bool,
+) -> Found
     requires { ⌜ LiteralAsked (now file) facts derived rule ⌝ }
-    ensures { λ r. ⌜ LiteralRead (now (file .entry)) rule top lit r ⌝ }
+    ensures { λ r. ⌜ LiteralRead layered (now (file .entry)) rule top lit r ⌝ }
 {
     let atom = lit / 2;
     if facts + derived <= atom {
         return Found::Fault(Refusal::Unknown(rule as u32));
     }
-    if top < layer(file, facts, atom) + lit % 2 {
+    if layered & (top < layer(file, facts, atom) + lit % 2) {
         return Found::Fault(Refusal::Layers(rule as u32));
     }
     Found::Nothing
 }
 
 // 8 to 11: the rules in file order, each body's literals in order, and no byte after the last.
-fn misruled(file: &[u8], facts: usize, derived: usize, rules: usize) -> Found
+fn misruled(file: &[u8], facts: usize, derived: usize, rules: usize, layered: bool) -> Found
     requires { ⌜ Framed (now file) ⌝ }
     requires { ⌜ Counted (now file) facts derived ⌝ }
     requires { ⌜ rules ≡ R (now file) ⌝ }
-    ensures { λ r. ⌜ Answers (rulesTests (now (file .entry))) r ⌝ }
+    ensures { λ r. ⌜ Answers (rulesTests layered (now (file .entry))) r ⌝ }
 {
     let mut found = Found::Nothing;
     let mut at = 28 + 4 * facts + derived;
@@ -262,7 +278,7 @@ fn misruled(file: &[u8], facts: usize, derived: usize, rules: usize) -> Found
                 let mut i = 0;
                 while i < literals {
                     let lit = u16_at(body, 2 * i);
-                    if let Found::Fault(w) = literal(file, facts, derived, j, top, lit) {
+                    if let Found::Fault(w) = literal(file, facts, derived, j, top, lit, layered) {
                         found = Found::Fault(w);
                         break 'rules;
                     }

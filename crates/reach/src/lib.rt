@@ -1,7 +1,7 @@
 // The calls of include/reach.h: what C may call, for any file, any memory and any numbers.
 //
 // Each call tests what 01 says it tests, in 01's order, hands the parts of the lent memory that are used to the crate that does the work,
-// and gives its answer in C's numbers (specs/Calls.antt).
+// and gives its answer in C's numbers (specs/Calls.antt, specs/Layers.antt).
 
 mod questioning;
 mod stepping;
@@ -9,6 +9,7 @@ mod stepping;
 use format::Verdict;
 ghost use mathlib.Core.Path.{_≡_};
 ghost use Rattle.reach.specs.Calls.{ours, StepIs, RanIs, WeightIs, ShareIs, ListIs};
+ghost use Rattle.reach.specs.Layers.{LayersAnswer};
 
 // reach_state
 #[repr(C)]
@@ -252,4 +253,17 @@ pub extern "C" fn reach_listing(
     }
     let room = fitting::room(nodes.len());
     questioning::listing(file, &nodes[..room], &places[..544], state, atom, out)
+}
+
+// The smallest layers that the rules allow, or a chain of rules that leaves none (specs/Layers.antt).
+#[no_mangle]
+pub extern "C" fn reach_layers(file: &[u8], out: &mut [u8]) -> Listed
+    ensures { λ r. ⌜ LayersAnswer (now (file .entry)) (now (out .entry)) (now (out .exit)) r ⌝ }
+{
+    let told = layering::tell(file, out);
+    Listed {
+        refusal: told.refusal,
+        detail: told.detail,
+        length: told.length,
+    }
 }

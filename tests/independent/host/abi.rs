@@ -56,4 +56,9 @@ extern "C" {
         state: State, atom: u32,
         out: *mut u8, out_len: usize,
     ) -> Listed;
+
+    pub fn reach_layers(
+        file: *const u8, file_len: usize,
+        out: *mut u8, out_len: usize,
+    ) -> Listed;
 }

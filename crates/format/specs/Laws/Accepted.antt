@@ -1,7 +1,7 @@
 -- What an accepted file grants: what every test of the check asks for, and so that the program it holds is legal.
--- An accepted file has no fault, so each of its tests fails to fail; read as orders of numbers, these are the fields of `Passed`.
+-- An accepted file has no fault, so each of its tests fails to fail; read as orders of numbers, these are the fields of `PassedBy`.
 use mathlib.Core.Path.{_≡_, refl, sym, _∙_}
-use mathlib.Core.Bool.{Bool, true, false, not}
+use mathlib.Core.Bool.{Bool, true, false, not, _&&_}
 use mathlib.Core.List.{List, [], _∷_, List·Memᴰ}
 use Prim.Native.Nat.{ℕ, zero, suc, _+_, _≤_, _<_}
 use native.Mathlib.Omega.{arith}
@@ -29,6 +29,7 @@ use Rattle.format.specs.Refusals.{
   ruleTests,
   fileTests,
   verdict,
+  verdictBy,
 }
 use Rattle.format.specs.Checked.{Answers}
 use Rattle.format.specs.Legal.{Legal}
@@ -52,7 +53,7 @@ pub record RightContents (s : List ℕ) : Type 0 where
   pub offset-2 : u32 s 16 ≡ layersAt s
   pub offset-3 : u32 s 24 ≡ rulesAt s
 
--- rule j has passed: it lies within the file, its head is a derived atom, its literals' atoms are known and keep to the layers
+-- rule j has passed 8 to 10: it lies within the file, its head is a derived atom, its literals' atoms are known
 pub record PassedRule (s : List ℕ) (j : ℕ) : Type 0 where
   pub header : startOf s j + 4 ≤ length s
   pub body : u16 s (startOf s j + 2) ≤ 16
@@ -60,10 +61,9 @@ pub record PassedRule (s : List ℕ) (j : ℕ) : Type 0 where
   pub derived : F s ≤ u16 s (startOf s j)
   pub below : u16 s (startOf s j) < F s + D s
   pub known : (i : ℕ) → i < u16 s (startOf s j + 2) → literalAt s (startOf s j) i .atom < F s + D s
-  pub keeps : (i : ℕ) → i < u16 s (startOf s j + 2) → breaks (decode s) (u16 s (startOf s j)) (literalAt s (startOf s j) i) ≡ false
 
--- the file has passed every test
-pub record Passed (s : List ℕ) : Type 0 where
+-- the file has passed every test but 11, and where layered 11 too
+pub record PassedBy (layered : Bool) (s : List ℕ) : Type 0 where
   pub long : 28 ≤ length s
   pub short : length s ≤ 65536
   pub contents : RightContents s
@@ -76,6 +76,17 @@ pub record Passed (s : List ℕ) : Type 0 where
   pub layers : (i : ℕ) → i < D s → 0 < byte s (layersAt s + i)
   pub rule : (j : ℕ) → j < R s → PassedRule s j
   pub ends : startOf s (R s) ≡ length s
+  pub keeps :
+      (j : ℕ) → j < R s → (i : ℕ) → i < u16 s (startOf s j + 2) →
+      (layered && breaks (decode s) (u16 s (startOf s j)) (literalAt s (startOf s j) i)) ≡ false
+
+-- the file has passed every test,
+abbrev pub Passed : List ℕ → Type 0
+Passed s = PassedBy true s
+
+-- or every test but 11: its literals may break the given layers
+abbrev pub Formed : List ℕ → Type 0
+Formed s = PassedBy false s
 
 -- none of these tests fails
 abbrev Clear : List Test → Type 0
@@ -93,32 +104,31 @@ not-zero : (n : ℕ) → eqb n 0 ≡ false → 0 < n
 not-zero n e = omega (arith, eqb-false)
 
 -- the parts of a rule's tests, none of which fails
-record RuleParts (s : List ℕ) (j : ℕ) : Type 0 where
+record RuleParts (layered : Bool) (s : List ℕ) (j : ℕ) : Type 0 where
   head : Clear (headTests s j (startOf s j))
   literals :
       (i : ℕ) → i < u16 s (startOf s j + 2) →
-      Clear (literalTests (decode s) j (u16 s (startOf s j)) (literalAt s (startOf s j) i))
+      Clear (literalTests layered (decode s) j (u16 s (startOf s j)) (literalAt s (startOf s j) i))
 
-rule-parts : (s : List ℕ) (j : ℕ) → Answers (ruleTests s j) Nothing → RuleParts s j
+rule-parts : (layered : Bool) (s : List ℕ) (j : ℕ) → Answers (ruleTests layered s j) Nothing → RuleParts layered s j
 unfolding ruleTests
-rule-parts s j a =
+rule-parts layered s j a =
     let (h, l) = append-passes (headTests s j (startOf s j)) _ a in
     record { head = clear _ h; literals = λ i q. clear _ (each-passes (u16 s (startOf s j + 2)) _ l i q) }
 
-rule-passed : (s : List ℕ) (j : ℕ) → RuleParts s j → PassedRule s j
+rule-passed : (layered : Bool) (s : List ℕ) (j : ℕ) → RuleParts layered s j → PassedRule s j
 unfolding ruleTests startOf
-rule-passed s j p = record {
+rule-passed layered s j p = record {
   header = omega (arith, ltb-false);
   body = omega (arith, ltb-false);
   inside = omega (arith, ltb-false);
   derived = omega (arith, ltb-false);
   below = omega (arith, leb-false);
   known = λ i q. let k = p .literals i q .0 in omega (arith, leb-false, decode-facts s, decode-layers s);
-  keeps = λ i q. p .literals i q .1 .0;
 }
 
 -- the parts of the tests of a file, none of which fails
-record Parts (s : List ℕ) : Type 0 where
+record Parts (layered : Bool) (s : List ℕ) : Type 0 where
   lengths : Clear (lengthTests s)
   contents : Clear (contentsTests s)
   counts : Clear (countsTests s)
@@ -126,12 +136,12 @@ record Parts (s : List ℕ) : Type 0 where
   facts : (i : ℕ) → i < F s → Clear (factTest s i)
   totals : Clear (totalTests s)
   layers : (i : ℕ) → i < D s → Clear (layerTest s i)
-  rules : (j : ℕ) → j < R s → RuleParts s j
+  rules : (j : ℕ) → j < R s → RuleParts layered s j
   leftover : length s ≤ startOf s (R s)
 
-parts : (s : List ℕ) → Answers (fileTests s) Nothing → Parts s
+parts : (layered : Bool) (s : List ℕ) → Answers (fileTests layered s) Nothing → Parts layered s
 unfolding fileTests
-parts s a =
+parts layered s a =
     let (a1, b1) = append-passes (lengthTests s) _ a in
     let (a2, b2) = append-passes (contentsTests s) _ b1 in
     let (a3, b3) = append-passes (countsTests s) _ b2 in
@@ -139,7 +149,7 @@ parts s a =
     let (a5, b5) = append-passes (each (F s) (factTest s)) _ b4 in
     let (a6, b6) = append-passes (totalTests s) _ b5 in
     let (a7, b7) = append-passes (each (D s) (layerTest s)) _ b6 in
-    let (a8, a9) = append-passes (each (R s) (ruleTests s)) _ b7 in
+    let (a8, a9) = append-passes (each (R s) (ruleTests layered s)) _ b7 in
     record {
       lengths = clear _ a1;
       contents = clear _ a2;
@@ -148,13 +158,13 @@ parts s a =
       facts = λ i q. clear _ (each-passes (F s) (factTest s) a5 i q);
       totals = clear _ a6;
       layers = λ i q. clear _ (each-passes (D s) (layerTest s) a7 i q);
-      rules = λ j q. rule-parts s j (each-passes (R s) (ruleTests s) a8 j q);
+      rules = λ j q. rule-parts layered s j (each-passes (R s) (ruleTests layered s) a8 j q);
       leftover = ltb-false (startOf s (R s)) (length s) (clear _ a9 .0);
     }
 
-contents-right : (s : List ℕ) → Parts s → RightContents s
+contents-right : (layered : Bool) (s : List ℕ) → Parts layered s → RightContents s
 unfolding fileTests
-contents-right s p = omega (arith, same)
+contents-right layered s p = omega (arith, same)
 
 -- the rules start within the file
 starts : (s : List ℕ) (n : ℕ) → rulesAt s ≤ length s → ((j : ℕ) → j < n → PassedRule s j) → (j : ℕ) → j ≤ n → startOf s j ≤ length s
@@ -162,16 +172,16 @@ unfolding startOf
 starts s n f g zero q = f
 starts s n f g (suc j) q = g j (omega arith) .inside
 
-all-passed : (s : List ℕ) → Parts s → Passed s
+all-passed : (layered : Bool) (s : List ℕ) → Parts layered s → PassedBy layered s
 unfolding fileTests
-all-passed s p =
+all-passed layered s p =
     let fit : rulesAt s ≤ length s = omega (arith, ltb-false) in
-    let rule : (j : ℕ) → j < R s → PassedRule s j = λ j q. rule-passed s j (p .rules j q) in
+    let rule : (j : ℕ) → j < R s → PassedRule s j = λ j q. rule-passed layered s j (p .rules j q) in
     let last : startOf s (R s) ≤ length s = starts s (R s) fit rule (R s) (omega arith) in
     record {
       long = omega (arith, ltb-false);
       short = omega (arith, ltb-false);
-      contents = contents-right s p;
+      contents = contents-right layered s p;
       facts = omega (arith, ltb-false);
       derived = omega (arith, ltb-false);
       rules = omega (arith, ltb-false);
@@ -181,21 +191,60 @@ all-passed s p =
       layers = λ i q. not-zero _ (p .layers i q .0);
       rule = rule;
       ends = omega arith;
+      keeps = λ j q i h. p .rules j q .literals i h .1 .0;
     }
 
--- an accepted file has passed every test
+passed-by : (layered : Bool) (s : List ℕ) {f d r t : ℕ} → verdictBy layered s ≡ Accepted f d r t → PassedBy layered s
+unfolding verdictBy
+passed-by layered s e =
+    all-passed layered s (parts layered s (accepted (fileTests layered s) (Accepted (F s) (D s) (R s) (total (decode s .facts))) e))
+
+-- an accepted file has passed every test,
 pub passed : (s : List ℕ) {f d r t : ℕ} → verdict s ≡ Accepted f d r t → Passed s
 unfolding verdict
-passed s e = all-passed s (parts s (accepted (fileTests s) (Accepted (F s) (D s) (R s) (total (decode s .facts))) e))
+passed = passed-by true
 
--- the verdict of an accepted file tells its counts and its total
+-- and one accepted without 11 every other
+pub formed : (s : List ℕ) {f d r t : ℕ} → verdictBy false s ≡ Accepted f d r t → Formed s
+formed = passed-by false
+
+-- 11 is one test more
+pub passed-formed : {s : List ℕ} → Passed s → Formed s
+passed-formed p = record {
+  long = p .long;
+  short = p .short;
+  contents = p .contents;
+  facts = p .facts;
+  derived = p .derived;
+  rules = p .rules;
+  fits = p .fits;
+  weights = p .weights;
+  whole = p .whole;
+  layers = p .layers;
+  rule = p .rule;
+  ends = p .ends;
+  keeps = λ j q i h. refl;
+}
+
+counts-by :
+    (layered : Bool) (s : List ℕ) {f d r t : ℕ} → verdictBy layered s ≡ Accepted f d r t →
+    (f ≡ F s) × (d ≡ D s) × (r ≡ R s) × (t ≡ total (decode s .facts))
+unfolding verdictBy
+counts-by layered s {f} {d} {r} {t} e =
+    let v : Verdict = Accepted (F s) (D s) (R s) (total (decode s .facts)) in
+    let q : Accepted f d r t ≡ v = sym e ∙ accepted (fileTests layered s) v e .answer v in
+    (cc, cc, cc, cc)
+
+-- the verdict of an accepted file tells its counts and its total,
 pub accepted-counts :
     (s : List ℕ) {f d r t : ℕ} → verdict s ≡ Accepted f d r t → (f ≡ F s) × (d ≡ D s) × (r ≡ R s) × (t ≡ total (decode s .facts))
 unfolding verdict
-accepted-counts s {f} {d} {r} {t} e =
-    let v : Verdict = Accepted (F s) (D s) (R s) (total (decode s .facts)) in
-    let q : Accepted f d r t ≡ v = sym e ∙ accepted (fileTests s) v e .answer v in
-    (cc, cc, cc, cc)
+accepted-counts = counts-by true
+
+-- and so does the verdict without 11
+pub formed-counts :
+    (s : List ℕ) {f d r t : ℕ} → verdictBy false s ≡ Accepted f d r t → (f ≡ F s) × (d ≡ D s) × (r ≡ R s) × (t ≡ total (decode s .facts))
+formed-counts = counts-by false
 
 -- ---- the program of an accepted file is legal
 
@@ -237,7 +286,7 @@ module _ (P : Program) (h : ℕ) (l : Literal) (e : breaks P h l ≡ false) wher
   unfolding breaks
   negated-keeps n = leb-false _ _ (rw n at e)
 
-module _ (s : List ℕ) (p : Passed s) where
+module _ {s : List ℕ} (p : Formed s) where
   head-known : (r : Rule) → List·Memᴰ r (decode s .rules) → (F s ≤ r .head) × (r .head < F s + D s)
   unfolding decode
   head-known r m = let (j, q, e) = mem-of-upto (R s) (λ i. ruleAt s (startOf s i)) m in rw e (p .rule j q .derived, p .rule j q .below)
@@ -245,21 +294,23 @@ module _ (s : List ℕ) (p : Passed s) where
   literal-known : {r : Rule} {l : Literal} → Place s r l → l .atom < F s + D s
   literal-known w = rw (w .literal-is) (p .rule (w .rule) (w .rule-below) .known (w .place) (w .place-below))
 
-  literal-keeps : {r : Rule} {l : Literal} → Place s r l → breaks (decode s) (r .head) l ≡ false
-  unfolding ruleAt
-  literal-keeps w = rw (w .rule-is, w .literal-is) (p .rule (w .rule) (w .rule-below) .keeps (w .place) (w .place-below))
-
   body-short : (r : Rule) → List·Memᴰ r (decode s .rules) → length (r .body) ≤ 16
   unfolding decode
   body-short r m =
       let (j, q, e) = mem-of-upto (R s) (λ i. ruleAt s (startOf s i)) m in
       rw (e, length-upto) (p .rule j q .body)
 
-  known : Known (decode s)
-  known = record {
+  -- the atoms of its rules are known, whatever its layers
+  pub formed-known : Known (decode s)
+  formed-known = record {
     heads = λ r m. rw (decode-facts, decode-layers) (head-known r m);
     literals = λ r m l k. rw (decode-facts, decode-layers) (literal-known (place-of s m k));
   }
+
+module _ (s : List ℕ) (p : Passed s) where
+  literal-keeps : {r : Rule} {l : Literal} → Place s r l → breaks (decode s) (r .head) l ≡ false
+  unfolding ruleAt
+  literal-keeps w = rw (w .rule-is, w .literal-is) (p .keeps (w .rule) (w .rule-below) (w .place) (w .place-below))
 
   module _ (b : Bytes s) where
     weights : (f : Fact) → List·Memᴰ f (decode s .facts) → (f .on < 65536) × (f .off < 65536) × (0 < f .on + f .off)
@@ -286,10 +337,10 @@ module _ (s : List ℕ) (p : Passed s) where
       facts = rw decode-facts (p .facts);
       derived = rw decode-layers (p .derived);
       rules = rw decode-rules (p .rules);
-      bodies = body-short;
+      bodies = body-short (passed-formed p);
       weights = weights;
       whole = p .whole;
-      known = known;
+      known = formed-known (passed-formed p);
       layered = layered;
     }
 

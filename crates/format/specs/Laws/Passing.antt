@@ -1,5 +1,5 @@
 -- What is accepted: a file that has passed every test, and so a file of a legal program with right contents and no byte left over.
--- The tests are put together one by one from the fields of `Passed`; those come from what a legal program grants.
+-- The tests are put together one by one from the fields of `PassedBy`; those come from what a legal program grants.
 use mathlib.Core.Path.{_≡_, refl, ap}
 use mathlib.Core.Bool.{Bool, true, false, not, _&&_}
 use mathlib.Core.List.{List, List·Memᴰ}
@@ -12,11 +12,11 @@ use Rattle.meaning.specs.Laws.Tests.{length-upto, getD-upto, mem-upto}
 use Rattle.meaning.specs.Meaning.{Literal, Rule, Program, layerOf, total, atoms}
 use Rattle.format.specs.Bytes.{byte, u16}
 use Rattle.format.specs.File.{F, D, R, factAt, layersAt, rulesAt, startOf, literalAt, ruleAt, decode}
-use Rattle.format.specs.Refusals.{contentsTests, offsetTests, factTest, layerTest, breaks, ruleTests, fileTests, verdict}
+use Rattle.format.specs.Refusals.{contentsTests, offsetTests, factTest, layerTest, breaks, ruleTests, fileTests, verdict, verdictBy}
 use Rattle.format.specs.Checked.{Answers}
 use Rattle.format.specs.Legal.{Legal}
 use Rattle.format.specs.Laws.First.{none, pass, go-on, each-none}
-use Rattle.format.specs.Laws.Accepted.{RightContents, Passed, PassedRule}
+use Rattle.format.specs.Laws.Accepted.{RightContents, PassedRule, PassedBy, Passed, Formed}
 use Rattle.format.specs.Laws.Decoded.{decode-facts, decode-layers, decode-rules}
 use Rattle.format.specs.declared.Verdict.the-variants.{Accepted}
 use Rattle.format.specs.declared.validate.Found.the-variants.{Nothing}
@@ -39,13 +39,16 @@ some-positive : (m n : ℕ) → 0 < m + n → (eqb m 0 && eqb n 0) ≡ false
 some-positive zero n h = positive {n = n} (omega arith)
 some-positive (suc m) n h = ap (λ b. b && eqb n 0) (positive {n = suc m} (omega arith))
 
-rule-passes : (s : List ℕ) (j : ℕ) → PassedRule s j → Answers (ruleTests s j) Nothing
+rule-passes :
+    (layered : Bool) (s : List ℕ) (j : ℕ) → PassedRule s j →
+    ((i : ℕ) → i < u16 s (startOf s j + 2) → (layered && breaks (decode s) (u16 s (startOf s j)) (literalAt s (startOf s j) i)) ≡ false) →
+    Answers (ruleTests layered s j) Nothing
 unfolding ruleTests startOf
-rule-passes s j p =
+rule-passes layered s j p keeps =
     go-on
     (pass (at-most (p .header)) (pass (at-most (p .body)) (pass (at-most (p .inside))
     (pass (at-most (p .derived)) (pass (below (p .below)) none)))))
-    (each-none (u16 s (startOf s j + 2)) _ (λ i q. pass (below (known i q)) (pass (p .keeps i q) none)))
+    (each-none (u16 s (startOf s j + 2)) _ (λ i q. pass (below (known i q)) (pass (keeps i q) none)))
   where
     known : (i : ℕ) → i < u16 s (startOf s j + 2) → literalAt s (startOf s j) i .atom < atoms (decode s)
     known i q = rw (decode-facts, decode-layers) (p .known i q)
@@ -60,9 +63,9 @@ offsets-pass : (s : List ℕ) → RightContents s → rulesAt s ≤ length s →
 unfolding offsetTests
 offsets-pass s c h = pass (alike (c .offset-1)) (pass (alike (c .offset-2)) (pass (alike (c .offset-3)) (pass (at-most h) none)))
 
-passes : (s : List ℕ) → Passed s → Answers (fileTests s) Nothing
+passes : (layered : Bool) (s : List ℕ) → PassedBy layered s → Answers (fileTests layered s) Nothing
 unfolding fileTests
-passes s p =
+passes layered s p =
     go-on (pass (at-most (p .long)) (pass (at-most (p .short)) none))
     (go-on (contents-pass s (p .contents))
     (go-on (pass (at-most (p .facts)) (pass (at-most (p .derived)) (pass (at-most (p .rules)) none)))
@@ -70,13 +73,22 @@ passes s p =
     (go-on (each-none (F s) (factTest s) (λ i q. pass (some-positive _ _ (p .weights i q)) none))
     (go-on (pass (at-most (p .whole)) none)
     (go-on (each-none (D s) (layerTest s) (λ i q. pass (positive (p .layers i q)) none))
-    (go-on (each-none (R s) (ruleTests s) (λ j q. rule-passes s j (p .rule j q)))
+    (go-on (each-none (R s) (ruleTests layered s) (λ j q. rule-passes layered s j (p .rule j q) (p .keeps j q)))
     (pass (at-most {m = startOf s (R s)} {n = length s} (omega arith)) none))))))))
 
--- a file that has passed every test is accepted
+by-accepted :
+    {layered : Bool} {s : List ℕ} → PassedBy layered s → verdictBy layered s ≡ Accepted (F s) (D s) (R s) (total (decode s .facts))
+unfolding verdictBy
+by-accepted {layered} {s} p = passes layered s p .answer (Accepted (F s) (D s) (R s) (total (decode s .facts)))
+
+-- a file that has passed every test is accepted,
 pub passed-accepted : {s : List ℕ} → Passed s → verdict s ≡ Accepted (F s) (D s) (R s) (total (decode s .facts))
 unfolding verdict
-passed-accepted {s} p = passes s p .answer (Accepted (F s) (D s) (R s) (total (decode s .facts)))
+passed-accepted p = by-accepted p
+
+-- and one that has passed every test but 11 is accepted without it
+pub formed-accepted : {s : List ℕ} → Formed s → verdictBy false s ≡ Accepted (F s) (D s) (R s) (total (decode s .facts))
+formed-accepted p = by-accepted p
 
 -- ---- and so is the file of a legal program
 
@@ -138,10 +150,17 @@ module _ (s : List ℕ) (g : Legal (decode s)) where
         known = λ i p.
             let atom = g .known .literals r m (literalAt s at i) (literal-member s at i p) in
             omega (arith, decode-facts s, decode-layers s);
-        keeps = λ i p.
-            let k = literal-member s at i p in
-            literal-keeps (decode s) (u16 s at) (literalAt s at i) (g .layered .positive r m _ k) (g .layered .negated r m _ k);
       }
+
+  keeps-legal :
+      (j : ℕ) → j < R s → (i : ℕ) → i < u16 s (startOf s j + 2) →
+      breaks (decode s) (u16 s (startOf s j)) (literalAt s (startOf s j) i) ≡ false
+  unfolding ruleAt
+  keeps-legal j q i p =
+      let r : Rule = ruleAt s (startOf s j) in
+      let m = rule-member s j q in
+      let k = literal-member s (startOf s j) i p in
+      literal-keeps (decode s) (r .head) (literalAt s (startOf s j) i) (g .layered .positive r m _ k) (g .layered .negated r m _ k)
 
   -- a file of a legal program passes, where its contents are right and its rules end where it ends
   pub legal-passed : RightContents s → length s ≤ 65536 → startOf s (R s) ≡ length s → Passed s
@@ -161,4 +180,5 @@ module _ (s : List ℕ) (g : Legal (decode s)) where
         layers = layer-legal;
         rule = λ j q. rule-legal j q (omega (arith, start-mono s (suc j) (R s) q));
         ends = e;
+        keeps = keeps-legal;
       }

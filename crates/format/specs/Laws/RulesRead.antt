@@ -1,7 +1,7 @@
 -- The layers and the rules of a file as the check reads them: refusals 7 to 11.
 -- Each lemma says of one branch of the code which tests it has passed, or which fault it has met.
 use mathlib.Core.Path.{_≡_, refl, sym, ap, ap₂, subst, _∙_}
-use mathlib.Core.Bool.{Bool, true, false, cond}
+use mathlib.Core.Bool.{Bool, true, false, _&&_, cond}
 use mathlib.Core.Logic.{_⊎_, inl, inr}
 use mathlib.Core.List.{List, _++_}
 use Prim.Native.Nat.{ℕ, suc, _+_, _*_, _-_, _/_, _%_, _≤_, _<_}
@@ -46,92 +46,97 @@ breaks-at t x n = go (eqb (n % 2) 1) refl
     go true e = sym (leb·suc-suc t x) ∙ ap (leb (suc t)) (omega (arith, eqb-true (n % 2) 1 e))
     go false e = ap (ltb t) (omega (arith, eqb-false (n % 2) 1 e))
 
-module _ (s : List ℕ) (j top lit : ℕ) where
+module _ (layered : Bool) (s : List ℕ) (j top lit : ℕ) where
   -- the atom is unknown,
-  pub literal-unknown : F s + D s ≤ lit / 2 → LiteralRead s j top lit (Fault (Unknown j))
+  pub literal-unknown : F s + D s ≤ lit / 2 → LiteralRead layered s j top lit (Fault (Unknown j))
   unfolding literalTests literal
   literal-unknown h = record { answers = λ p q. fail (le-leb (atoms (decode s)) (lit / 2) (omega (arith, decode-atoms s))) }
 
   module _ (low : ℕ) (read : low ≡ layerOf (decode s) (lit / 2)) (known : lit / 2 < F s + D s) where
-    breaks-read : (h : ℕ) → top ≡ layerOf (decode s) h → breaks (decode s) h (literal lit) ≡ ltb top (low + lit % 2)
+    breaks-read :
+        (h : ℕ) → top ≡ layerOf (decode s) h → (layered && breaks (decode s) h (literal lit)) ≡ (layered && ltb top (low + lit % 2))
     unfolding breaks literal
     breaks-read h e =
-        breaks-at (layerOf (decode s) h) (layerOf (decode s) (lit / 2)) lit ∙ ap₂ (λ x y. ltb x (y + lit % 2)) (sym e) (sym read)
+        ap (λ b. layered && b)
+        (breaks-at (layerOf (decode s) h) (layerOf (decode s) (lit / 2)) lit ∙ ap₂ (λ x y. ltb x (y + lit % 2)) (sym e) (sym read))
 
     is-known : leb (atoms (decode s)) (lit / 2) ≡ false
     is-known = lt-leb (atoms (decode s)) (lit / 2) (omega (arith, decode-atoms s))
 
     -- or the literal breaks the layers,
-    pub literal-breaks : top < low + lit % 2 → LiteralRead s j top lit (Fault (Layers j))
+    pub literal-breaks : (layered && ltb top (low + lit % 2)) ≡ true → LiteralRead layered s j top lit (Fault (Layers j))
     unfolding literalTests literal
-    literal-breaks h = record { answers = λ p q. pass is-known (fail (breaks-read p q ∙ lt-ltb top (low + lit % 2) h)) }
+    literal-breaks h = record { answers = λ p q. pass is-known (fail (breaks-read p q ∙ h)) }
 
     -- or it passes
-    pub literal-passes : low + lit % 2 ≤ top → LiteralRead s j top lit Nothing
+    pub literal-passes : (layered && ltb top (low + lit % 2)) ≡ false → LiteralRead layered s j top lit Nothing
     unfolding literalTests literal
-    literal-passes h = record { answers = λ p q. pass is-known (pass (breaks-read p q ∙ le-ltb top (low + lit % 2) h) none) }
+    literal-passes h = record { answers = λ p q. pass is-known (pass (breaks-read p q ∙ h) none) }
 
 -- ---- the rules, one after another
 
 -- where rule j starts
-pub record Reached (s : List ℕ) (j at : ℕ) : Type 0 where
+pub record Reached (layered : Bool) (s : List ℕ) (j at : ℕ) : Type 0 where
   pub start : at ≡ startOf s j
   pub inside : at ≤ length s
-  pub passed : (k : ℕ) → k < j → Answers (ruleTests s k) Nothing
+  pub passed : (k : ℕ) → k < j → Answers (ruleTests layered s k) Nothing
 
-module _ (s : List ℕ) where
-  pub reached-first : rulesAt s ≤ length s → {at : ℕ} → at ≡ rulesAt s → Reached s 0 at
+module _ (layered : Bool) (s : List ℕ) where
+  pub reached-first : rulesAt s ≤ length s → {at : ℕ} → at ≡ rulesAt s → Reached layered s 0 at
   unfolding startOf
   reached-first h e = record { start = e; inside = omega arith; passed = λ k q. absurd (omega arith) }
 
-  module _ (j at : ℕ) (here : Reached s j at) where
-    rule-split : ruleTests s j ≡ headTests s j at ++ each (u16 s (at + 2)) (λ i. literalTests (decode s) j (u16 s at) (literalAt s at i))
+  module _ (j at : ℕ) (here : Reached layered s j at) where
+    rule-split :
+        ruleTests layered s j ≡
+        headTests s j at ++ each (u16 s (at + 2)) (λ i. literalTests layered (decode s) j (u16 s at) (literalAt s at i))
     unfolding ruleTests
     rule-split = rw (here .start)
 
     -- a fault in a rule's header is the file's,
-    pub header-stops : j < R s → {w : Refusal} → Answers (headTests s j at) (Fault w) → Answers (rulesTests s) (Fault w)
+    pub header-stops : j < R s → {w : Refusal} → Answers (headTests s j at) (Fault w) → Answers (rulesTests layered s) (Fault w)
     unfolding rulesTests
-    header-stops h a = stop _ (each-fault (R s) (ruleTests s) j h (here .passed) (rw rule-split (stop _ a)))
+    header-stops h a = stop _ (each-fault (R s) (ruleTests layered s) j h (here .passed) (rw rule-split (stop _ a)))
 
     -- and so is one in a literal,
     pub literal-stops :
         j < R s → Answers (headTests s j at) Nothing → (i : ℕ) → i < u16 s (at + 2) →
-        ((k : ℕ) → k < i → Answers (literalTests (decode s) j (u16 s at) (literalAt s at k)) Nothing) → {w : Refusal} →
-        Answers (literalTests (decode s) j (u16 s at) (literalAt s at i)) (Fault w) → Answers (rulesTests s) (Fault w)
+        ((k : ℕ) → k < i → Answers (literalTests layered (decode s) j (u16 s at) (literalAt s at k)) Nothing) → {w : Refusal} →
+        Answers (literalTests layered (decode s) j (u16 s at) (literalAt s at i)) (Fault w) → Answers (rulesTests layered s) (Fault w)
     unfolding rulesTests
     literal-stops h b i q r a =
-        stop _ (each-fault (R s) (ruleTests s) j h (here .passed) (rw rule-split (go-on b (each-fault (u16 s (at + 2)) _ i q r a))))
+        stop _ (each-fault (R s) (ruleTests layered s) j h (here .passed) (rw rule-split (go-on b (each-fault (u16 s (at + 2)) _ i q r a))))
 
     -- and a rule with neither is passed
     pub reached-next :
         Answers (headTests s j at) Nothing → {end : ℕ} → end ≡ after s at → end ≤ length s →
-        ((k : ℕ) → k < u16 s (at + 2) → Answers (literalTests (decode s) j (u16 s at) (literalAt s at k)) Nothing) →
-        Reached s (j + 1) end
+        ((k : ℕ) → k < u16 s (at + 2) → Answers (literalTests layered (decode s) j (u16 s at) (literalAt s at k)) Nothing) →
+        Reached layered s (j + 1) end
     unfolding startOf
     reached-next b e q r = rw (add-one j) (record {
       start = e ∙ ap (after s) (here .start);
       inside = q;
       passed = λ k p. elim (decLt k j) [
         | yes l ↦ here .passed k l
-        | no l ↦ subst (λ z. Answers (ruleTests s z) Nothing) (omega (arith, l)) whole
+        | no l ↦ subst (λ z. Answers (ruleTests layered s z) Nothing) (omega (arith, l)) whole
       ];
     })
       where
-        whole : Answers (ruleTests s j) Nothing
+        whole : Answers (ruleTests layered s j) Nothing
         whole = rw rule-split (go-on b (each-none (u16 s (at + 2)) _ r))
 
   -- after the last rule: bytes are left over,
-  pub rules-leftover : (at : ℕ) → Reached s (R s) at → at < length s → Answers (rulesTests s) (Fault (Broken (R s)))
+  pub rules-leftover : (at : ℕ) → Reached layered s (R s) at → at < length s → Answers (rulesTests layered s) (Fault (Broken (R s)))
   unfolding rulesTests
   rules-leftover at here h =
-      go-on (each-none (R s) (ruleTests s) (here .passed)) (fail (lt-ltb (startOf s (R s)) (length s) (omega (arith, here .start))))
+      go-on (each-none (R s) (ruleTests layered s) (here .passed)) (fail (lt-ltb (startOf s (R s)) (length s) (omega (arith, here .start))))
 
   -- or none are
-  pub rules-end : (at : ℕ) → Reached s (R s) at → length s ≤ at → Answers (rulesTests s) Nothing
+  pub rules-end : (at : ℕ) → Reached layered s (R s) at → length s ≤ at → Answers (rulesTests layered s) Nothing
   unfolding rulesTests
   rules-end at here h =
-      go-on (each-none (R s) (ruleTests s) (here .passed)) (pass (le-ltb (startOf s (R s)) (length s) (omega (arith, here .start))) none)
+      go-on (each-none (R s) (ruleTests layered s) (here .passed))
+      (pass (le-ltb (startOf s (R s)) (length s) (omega (arith, here .start))) none)
 
 -- ---- a body as a part of the file
 
@@ -164,24 +169,24 @@ module _ (s : List ℕ) (j at : ℕ) where
   header-is h e = subst (HeaderRead s j at) e h
 
   pub literal-is :
-      {top x : ℕ} {r q : Found} → LiteralRead s j top x r → r ≡ q → top ≡ layerOf (decode s) (u16 s at) → (i : ℕ) →
-      literal x ≡ literalAt s at i → Answers (literalTests (decode s) j (u16 s at) (literalAt s at i)) q
-  literal-is {x} {q} h e t i l =
-      subst (λ y. Answers (literalTests (decode s) j (u16 s at) y) q) l
-      (subst (Answers (literalTests (decode s) j (u16 s at) (literal x))) e (h .answers (u16 s at) t))
+      {layered : Bool} {top x : ℕ} {r q : Found} → LiteralRead layered s j top x r → r ≡ q → top ≡ layerOf (decode s) (u16 s at) → (i : ℕ) →
+      literal x ≡ literalAt s at i → Answers (literalTests layered (decode s) j (u16 s at) (literalAt s at i)) q
+  literal-is {layered} {x} {q} h e t i l =
+      subst (λ y. Answers (literalTests layered (decode s) j (u16 s at) y) q) l
+      (subst (Answers (literalTests layered (decode s) j (u16 s at) (literal x))) e (h .answers (u16 s at) t))
 
 -- ---- where the loops over rules and literals end
 
 -- past the last rule with no fault, or with the file's first
-abbrev pub Ended : List ℕ → ℕ → ℕ → Found → Type 0
-Ended s j at x =
-    ((x ≡ Nothing) × (R s ≤ j) × Reached s j at) ⊎ ((w : Refusal) × (x ≡ Fault w) × Answers (rulesTests s) (Fault w))
+abbrev pub Ended : Bool → List ℕ → ℕ → ℕ → Found → Type 0
+Ended layered s j at x =
+    ((x ≡ Nothing) × (R s ≤ j) × Reached layered s j at) ⊎ ((w : Refusal) × (x ≡ Fault w) × Answers (rulesTests layered s) (Fault w))
 
-module _ (s : List ℕ) (j at : ℕ) {x : Found} where
-  pub ended-fault : Ended s j at x → {w : Refusal} → x ≡ Fault w → Answers (rulesTests s) (Fault w)
+module _ (layered : Bool) (s : List ℕ) (j at : ℕ) {x : Found} where
+  pub ended-fault : Ended layered s j at x → {w : Refusal} → x ≡ Fault w → Answers (rulesTests layered s) (Fault w)
   ended-fault (inl v) e = absurd (let z : _≡_ {A = ℕ} 0 1 = cc (v .0, e) in omega arith)
-  ended-fault (inr v) e = subst (Answers (rulesTests s)) (sym (v .1) ∙ e) (v .2)
+  ended-fault (inr v) e = subst (Answers (rulesTests layered s)) (sym (v .1) ∙ e) (v .2)
 
-  pub ended-reached : Ended s j at x → x ≡ Nothing → j ≤ R s → Reached s (R s) at
-  ended-reached (inl v) e h = subst (λ k. Reached s k at) (omega (arith, v .1)) (v .2)
+  pub ended-reached : Ended layered s j at x → x ≡ Nothing → j ≤ R s → Reached layered s (R s) at
+  ended-reached (inl v) e h = subst (λ k. Reached layered s k at) (omega (arith, v .1)) (v .2)
   ended-reached (inr v) e h = absurd (let z : _≡_ {A = ℕ} 0 1 = cc (v .1, e) in omega arith)

@@ -12,7 +12,7 @@ use Rattle.format.specs.File.{R, rulesAt, after, startOf, ruleAt, decode
 use Rattle.format.specs.Refusals.{verdict}
 use Rattle.format.specs.Walk.{firstAt, stepAt, partOf, entryAt, bodyOf, metBy, walk}
 use Rattle.format.specs.Laws.RulesRead.{body-length, body-literal}
-use Rattle.format.specs.Laws.Accepted.{Passed, passed}
+use Rattle.format.specs.Laws.Accepted.{Formed, passed, passed-formed}
 use Rattle.format.specs.declared.Verdict.the-variants.{Accepted}
 use Rattle.format.specs.declared.walk.Step.the-variants as step
 use Rattle.format.specs.declared.walk.Entry.the-variants as entry
@@ -68,9 +68,9 @@ body-whole s at h =
     let size : length (take (after s at - (at + 4)) (drop (at + 4) s)) / 2 ≡ u16 s (at + 2) = omega (arith, body-length s at refl h) in
     rw (part-inside s (at + 4) (after s at) (omega arith) h, size) (upto-same _ _ _ (λ i q. body-literal s at refl h i q refl))
 
--- ---- the rules of an accepted file
+-- ---- the rules of a file that is accepted without 11 or with it
 
-module _ {s : List ℕ} (p : Passed s) where
+module _ {s : List ℕ} (p : Formed s) where
   -- the walk starts at the first rule,
   pub first-start : firstAt s ≡ startOf s 0
   unfolding startOf
@@ -108,5 +108,5 @@ walk-places s (suc k) (suc n) place q r b e =
 pub walked : (s : List ℕ) {f d r t : ℕ} → verdict s ≡ Accepted f d r t → (n : ℕ) → R s ≤ n → walk s (firstAt s) n ≡ decode s .rules
 unfolding decode
 walked s e n h =
-    let p : Passed s = passed s e in
+    let p : Formed s = passed-formed (passed s e) in
     rw (first-start p) (walk-places s (R s) n (startOf s) h (step-rule p) (body-rule p) (step-end p))

@@ -1,5 +1,6 @@
 -- The whole check: at each point of the code, the tests that are left answer what all the tests answer.
 use mathlib.Core.Path.{_≡_, refl, sym, subst, _∙_}
+use mathlib.Core.Bool.{Bool}
 use mathlib.Core.List.{List, _++_}
 use Prim.Native.Nat.{ℕ, _≤_, _<_}
 use native.Mathlib.Omega.{arith}
@@ -21,7 +22,7 @@ use Rattle.format.specs.Refusals.{
   each,
   largest,
   fileTests,
-  verdict,
+  verdictBy,
 }
 use Rattle.format.specs.Checked.{Answers, Framed, Totalled}
 use Rattle.format.specs.Laws.First.{none, pass, fail, first-append, head-passes}
@@ -35,75 +36,75 @@ use Rattle.format.specs.declared.validate.Sum.the-variants as sum
 
 -- ---- what is left after 1, 2, .. , 7
 
-abbrev pub after7 : List ℕ → List Test
-after7 s = rulesTests s
+abbrev pub after7 : Bool → List ℕ → List Test
+after7 layered s = rulesTests layered s
 
-abbrev pub after6 : List ℕ → List Test
-after6 s = each (D s) (layerTest s) ++ after7 s
+abbrev pub after6 : Bool → List ℕ → List Test
+after6 layered s = each (D s) (layerTest s) ++ after7 layered s
 
-abbrev pub after5 : List ℕ → List Test
-after5 s = totalTests s ++ after6 s
+abbrev pub after5 : Bool → List ℕ → List Test
+after5 layered s = totalTests s ++ after6 layered s
 
-abbrev pub after4 : List ℕ → List Test
-after4 s = each (F s) (factTest s) ++ after5 s
+abbrev pub after4 : Bool → List ℕ → List Test
+after4 layered s = each (F s) (factTest s) ++ after5 layered s
 
-abbrev pub after3 : List ℕ → List Test
-after3 s = offsetTests s ++ after4 s
+abbrev pub after3 : Bool → List ℕ → List Test
+after3 layered s = offsetTests s ++ after4 layered s
 
-abbrev pub after2 : List ℕ → List Test
-after2 s = countsTests s ++ after3 s
+abbrev pub after2 : Bool → List ℕ → List Test
+after2 layered s = countsTests s ++ after3 layered s
 
-abbrev pub after1 : List ℕ → List Test
-after1 s = contentsTests s ++ after2 s
+abbrev pub after1 : Bool → List ℕ → List Test
+after1 layered s = contentsTests s ++ after2 layered s
 
 -- ---- from test to test
 
 -- these tests answer what all of them answer
-pub record Left (s : List ℕ) (ts : List Test) : Type 0 where
-  pub left : verdict s ≡ first ts (Accepted (F s) (D s) (R s) (total (decode s .facts)))
+pub record Left (layered : Bool) (s : List ℕ) (ts : List Test) : Type 0 where
+  pub left : verdictBy layered s ≡ first ts (Accepted (F s) (D s) (R s) (total (decode s .facts)))
 
 pub answers-is : {ts : List Test} {r q : Found} → Answers ts r → r ≡ q → Answers ts q
 answers-is {ts} a e = subst (Answers ts) e a
 
 -- a part of the tests has no fault, or the first
-module _ {s : List ℕ} (k l : List Test) (before : Left s (k ++ l)) where
-  pub passes : Answers k Nothing → Left s l
+module _ {layered : Bool} {s : List ℕ} (k l : List Test) (before : Left layered s (k ++ l)) where
+  pub passes : Answers k Nothing → Left layered s l
   passes a = record { left = before .left ∙ first-append k l _ ∙ a .answer _ }
 
-  pub refuses : {w : Refusal} → Answers k (Fault w) → Refused w ≡ verdict s
+  pub refuses : {w : Refusal} → Answers k (Fault w) → Refused w ≡ verdictBy layered s
   refuses a = sym (before .left ∙ first-append k l _ ∙ a .answer _)
 
 -- ---- 1
 
-module _ (s : List ℕ) where
-  whole : Left s (lengthTests s ++ after1 s)
-  unfolding verdict fileTests
+module _ (layered : Bool) (s : List ℕ) where
+  whole : Left layered s (lengthTests s ++ after1 layered s)
+  unfolding verdictBy fileTests
   whole = record { left = refl }
 
   -- too short,
-  pub too-short : length s < 28 → Refused Length ≡ verdict s
+  pub too-short : length s < 28 → Refused Length ≡ verdictBy layered s
   unfolding lengthTests
-  too-short h = refuses (lengthTests s) (after1 s) whole (fail (lt-ltb (length s) 28 h))
+  too-short h = refuses (lengthTests s) (after1 layered s) whole (fail (lt-ltb (length s) 28 h))
 
   -- too long,
-  pub too-long : 28 ≤ length s → 65536 < length s → Refused Length ≡ verdict s
+  pub too-long : 28 ≤ length s → 65536 < length s → Refused Length ≡ verdictBy layered s
   unfolding lengthTests
-  too-long h k = refuses (lengthTests s) (after1 s) whole (pass (le-ltb (length s) 28 h) (fail (lt-ltb 65536 (length s) k)))
+  too-long h k = refuses (lengthTests s) (after1 layered s) whole (pass (le-ltb (length s) 28 h) (fail (lt-ltb 65536 (length s) k)))
 
   -- or neither
-  pub sized : 28 ≤ length s → length s ≤ 65536 → Left s (after1 s)
+  pub sized : 28 ≤ length s → length s ≤ 65536 → Left layered s (after1 layered s)
   unfolding lengthTests
-  sized h k = passes (lengthTests s) (after1 s) whole (pass (le-ltb (length s) 28 h) (pass (le-ltb 65536 (length s) k) none))
+  sized h k = passes (lengthTests s) (after1 layered s) whole (pass (le-ltb (length s) 28 h) (pass (le-ltb 65536 (length s) k) none))
 
 -- ---- the last tests
 
-module _ (s : List ℕ) (before : Left s (after7 s)) where
-  pub refuses-last : {w : Refusal} → Answers (after7 s) (Fault w) → Refused w ≡ verdict s
+module _ (layered : Bool) (s : List ℕ) (before : Left layered s (after7 layered s)) where
+  pub refuses-last : {w : Refusal} → Answers (after7 layered s) (Fault w) → Refused w ≡ verdictBy layered s
   refuses-last a = sym (before .left ∙ a .answer _)
 
   pub accepts :
-      Answers (after7 s) Nothing → {f d r t : ℕ} → f ≡ F s → d ≡ D s → r ≡ R s → t ≡ total (decode s .facts) →
-      Accepted f d r t ≡ verdict s
+      Answers (after7 layered s) Nothing → {f d r t : ℕ} → f ≡ F s → d ≡ D s → r ≡ R s → t ≡ total (decode s .facts) →
+      Accepted f d r t ≡ verdictBy layered s
   accepts a e g h k = let v = before .left ∙ a .answer _ in cc
 
 -- ---- 6

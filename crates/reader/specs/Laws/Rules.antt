@@ -1,4 +1,4 @@
--- A reader of an accepted file gives its rules one after another, and then says that there is none left.
+-- A reader of an accepted file (11 may be left out) gives its rules one after another, and then says that there is none left.
 use mathlib.Core.Path.{_≡_, refl, sym, ap, _∙_}
 use mathlib.Core.List.{List}
 use mathlib.Core.Option.{some, none}
@@ -11,7 +11,7 @@ use Rattle.meaning.specs.Meaning.{Literal}
 use Rattle.format.specs.Bytes.{u16}
 use Rattle.format.specs.File.{R, startOf, ruleAt, decode}
 use Rattle.format.specs.Walk.{stepAt}
-use Rattle.format.specs.Laws.Accepted.{Passed}
+use Rattle.format.specs.Laws.Accepted.{Formed}
 use Rattle.format.specs.Laws.Walked.{first-start, step-rule, step-end, body-rule}
 use Rattle.format.specs.declared.walk.Step.{Step}
 use Rattle.format.specs.declared.walk.Step.the-variants as step
@@ -30,7 +30,7 @@ none-upto zero f j h = refl
 none-upto (suc n) f zero h = absurd (omega arith)
 none-upto (suc n) f (suc j) h = none-upto n (λ i. f (suc i)) j (omega arith)
 
-module _ {s : List ℕ} (p : Passed s) where
+module _ {s : List ℕ} (p : Formed s) where
   -- after j calls of `next` a reader stands where rule j starts,
   pub place-start : (j : ℕ) → j ≤ R s → placeOf s j ≡ startOf s j
   unfolding placeOf

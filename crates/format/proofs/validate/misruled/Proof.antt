@@ -1,5 +1,6 @@
 -- `format::validate::misruled` meets its contract: the rules before j, and the literals of rule j before i, have no fault.
 use mathlib.Core.Path.{_≡_, refl, sym, subst, _∙_}
+use mathlib.Core.Bool.{Bool}
 use mathlib.Core.Logic.{inl, inr, ⊎-elim}
 use mathlib.Core.List.{List}
 use Prim.Native.Nat.{ℕ, _≤_, _<_, _-_, _+_, _*_}
@@ -35,19 +36,19 @@ use Rattle.format.proofs.validate.misruled.Statement.{statement}
 use Rattle.format.proofs.validate.misruled.Tie as tie
 
 abbrev Inv-loop : tie.InvT-loop
-Inv-loop file facts derived rules found₀ at j top end start body literals i₀ found i =
+Inv-loop file facts derived rules layered found₀ at j top end start body literals i₀ found i =
     (found ≡ Nothing) ×
     (i ≤ literals) ×
-    ((k : ℕ) → k < i → Answers (literalTests (decode file) j (u16 file at) (literalAt file at k)) Nothing)
+    ((k : ℕ) → k < i → Answers (literalTests layered (decode file) j (u16 file at) (literalAt file at k)) Nothing)
 
 abbrev μ-loop : tie.MeasureT-loop
-μ-loop file facts derived rules found₀ at j top end start body literals i₀ found i = literals - i
+μ-loop file facts derived rules layered found₀ at j top end start body literals i₀ found i = literals - i
 
 abbrev Inv-rules : tie.InvT-rules
-Inv-rules file facts derived rules found₀ at₀ j₀ found at j = (found ≡ Nothing) × (j ≤ rules) × Reached file j at
+Inv-rules file facts derived rules layered found₀ at₀ j₀ found at j = (found ≡ Nothing) × (j ≤ rules) × Reached layered file j at
 
 abbrev μ-rules : tie.MeasureT-rules
-μ-rules file facts derived rules found₀ at₀ j₀ found at j = rules - j
+μ-rules file facts derived rules layered found₀ at₀ j₀ found at j = rules - j
 
 -- the loop over the rules: it has reached rule `.rules .j`, which starts at `.rules .at`
 abbrev At-rules : Type 0
@@ -55,6 +56,10 @@ At-rules = tie.At-rules Inv-loop μ-loop Inv-rules μ-rules
 
 abbrev file : At-rules → List ℕ
 file c = c .before .before .args .file .now
+
+-- with 11 or without
+abbrev layered : At-rules → Bool
+layered c = c .before .before .args .layered
 
 mul-at : tie.Need-mul-at Inv-loop μ-loop Inv-rules μ-rules
 mul-at c = omega arith
@@ -66,7 +71,9 @@ add-at-2 : tie.Need-add-at-2 Inv-loop μ-loop Inv-rules μ-rules
 add-at-2 c = omega arith
 
 rules-holds : tie.Need-rules-holds Inv-loop μ-loop Inv-rules μ-rules
-rules-holds c = (refl, omega arith, reached-first (c .before .args .file .now) (c .before .pre .0 .fits) (omega arith))
+rules-holds c =
+    let start = c .before in
+    (refl, omega arith, reached-first (start .args .layered) (start .args .file .now) (start .pre .0 .fits) (omega arith))
 
 header-requires : tie.Need-header-requires Inv-loop μ-loop Inv-rules μ-rules
 header-requires c κs =
@@ -193,15 +200,16 @@ rules-again c =
     let r = rule read in (
       c .before .loop .inv .0,
       omega (arith, at-rules-test .rules-test .taken),
-      reached-next (file reached) (reached .rules .j) (reached .rules .at) (reached .rules .inv .2) (r .0) (r .2) (r .3)
+      reached-next (layered reached) (file reached) (reached .rules .j) (reached .rules .at) (reached .rules .inv .2) (r .0) (r .2) (r .3)
           (λ k h. c .before .loop .inv .2 k (omega (arith, c .loop-test .left, body read))),
     )
 
 -- where the ways out of the loops meet
 met :
     (c : tie.Left-rules Inv-loop μ-loop Inv-rules μ-rules) →
-    Ended (file (c .before)) (c .before .rules .j) (c .before .rules .at) (c .rules-test .found)
+    Ended (layered (c .before)) (file (c .before)) (c .before .rules .j) (c .before .rules .at) (c .rules-test .found)
 met c =
+    let b = layered (c .before) in
     let s = file (c .before) in
     let j = c .before .rules .j in
     let at = c .before .rules .at in
@@ -213,7 +221,7 @@ met c =
     (λ u. inr (⊎-elim
     (λ v.
     let r = header-is s j at (v .1 .ensures) (v .3 .given .1) in
-    (v .3 .given .0 .0, v .5, header-stops s j at here (omega (arith, v .0 .taken)) r))
+    (v .3 .given .0 .0, v .5, header-stops b s j at here (omega (arith, v .0 .taken)) r))
     -- or by one in a literal
     (λ v.
     let r = header-is s j at (v .1 .ensures) (v .3 .given .1) in
@@ -222,7 +230,7 @@ met c =
     let literal-i = body-literal s at (r .2) (r .3) i below (v .8 .ensures .value) in (
       v .11 .given .0 .0,
       v .13,
-      literal-stops s j at here (omega (arith, v .0 .taken)) (r .0) i below (v .6 .inv .2)
+      literal-stops b s j at here (omega (arith, v .0 .taken)) (r .0) i below (v .6 .inv .2)
           (literal-is s j at (v .9 .ensures) (v .11 .given .1) (r .1) i literal-i),
     ))
     u))
@@ -235,34 +243,34 @@ returns : tie.Need-returns Inv-loop μ-loop Inv-rules μ-rules
 returns c =
     let at-rules-test = c .before .before .before in
     let reached = at-rules-test .before in
-    ended-fault (file reached) (reached .rules .j) (reached .rules .at) (met at-rules-test) (c .before .found .given .1)
+    ended-fault (layered reached) (file reached) (reached .rules .j) (reached .rules .at) (met at-rules-test) (c .before .found .given .1)
 
 -- where no fault was found, all the rules are passed
 module _ (c : tie.After-enum-told2 Inv-loop μ-loop Inv-rules μ-rules) where
   abbrev ended : At-rules
   ended = c .before .before .before
 
-  all-passed : Reached (file ended) (R (file ended)) (ended .rules .at)
+  all-passed : Reached (layered ended) (file ended) (R (file ended)) (ended .rules .at)
   all-passed =
-      ended-reached (file ended) (ended .rules .j) (ended .rules .at) (met (c .before .before)) (c .enum-told2 .given .1)
+      ended-reached (layered ended) (file ended) (ended .rules .j) (ended .rules .at) (met (c .before .before)) (c .enum-told2 .given .1)
       (omega arith)
 
 enum-told-2 : tie.Need-enum-told-2 Inv-loop μ-loop Inv-rules μ-rules
 enum-told-2 c = search needs
 
-cast-t29 : tie.Need-cast-t29 Inv-loop μ-loop Inv-rules μ-rules
-cast-t29 c = omega arith
+cast-t30 : tie.Need-cast-t30 Inv-loop μ-loop Inv-rules μ-rules
+cast-t30 c = omega arith
 
 returns-2 : tie.Need-returns-2 Inv-loop μ-loop Inv-rules μ-rules
 returns-2 c =
     let last = ended (c .before) in
-    subst (λ n. Answers (rulesTests (file last)) (Fault (Broken n))) (sym (last .before .before .pre .1 .1))
-    (rules-leftover (file last) (last .rules .at) (all-passed (c .before)) (c .if1 .taken))
+    subst (λ n. Answers (rulesTests (layered last) (file last)) (Fault (Broken n))) (sym (last .before .before .pre .1 .1))
+    (rules-leftover (layered last) (file last) (last .rules .at) (all-passed (c .before)) (c .if1 .taken))
 
 returns-3 : tie.Need-returns-3 Inv-loop μ-loop Inv-rules μ-rules
 returns-3 c =
     let last = ended (c .before) in
-    rules-end (file last) (last .rules .at) (all-passed (c .before)) (c .if1 .left)
+    rules-end (layered last) (file last) (last .rules .at) (all-passed (c .before)) (c .if1 .left)
 
 pub misruled-spec : {M : Type 1} → statement M
 misruled-spec =
@@ -298,6 +306,6 @@ misruled-spec =
     enum-known-found
     returns
     enum-told-2
-    cast-t29
+    cast-t30
     returns-2
     returns-3)
