@@ -24,8 +24,8 @@ use Rattle.rounds.specs.Load.{loadedStore, loadBuilds}
 use Rattle.rounds.specs.Budget.{cost}
 use Rattle.questions.specs.Questions.{asked, conjunction, listed}
 use Rattle.fitting.specs.Fit.{roomIn, wordsIn, passes}
-use Rattle.reach.specs.Calls.{Calls, Stepped, Ranned, Weighing, Sharing, Listing, knows}
-use Rattle.reach.specs.declared.Counts.{Counts}
+use Rattle.calls.specs.Calls.{Calls, Stepped, Ranned, Weighing, Sharing, Listing, knows}
+use Rattle.calls.specs.declared.Counts.{Counts}
 use Rattle.demands.specs.Hand.{
   Hand,
   room,

@@ -6,8 +6,8 @@ use Prim.Native.Nat.{ℕ, _-_, _≤_}
 use lib.ListN.{take, drop, replicate}
 use Rattle.update.specs.Update.{Store}
 use Rattle.fitting.specs.Fit.{roomIn, wordsIn, placesIn}
-use Rattle.reach.specs.Calls.{Calls, Stepped, Ranned, Weighing, Sharing, Listing, lentStore, fits}
-use Rattle.reach.specs.declared.State.{State}
+use Rattle.calls.specs.Calls.{Calls, Stepped, Ranned, Weighing, Sharing, Listing, lentStore, fits}
+use Rattle.calls.specs.declared.State.{State}
 
 -- the lent nodes and places, and the state
 pub record Hand : Type 0 where

@@ -6,8 +6,8 @@ use lib.Dec.{eqb}
 use lib.ListN.{length, drop}
 use Rattle.format.specs.File.{decode}
 use Rattle.rounds.specs.Layers.{nextLayer, atomsOf}
-use Rattle.reach.specs.Calls.{Calls, Stepped, Ranned, Weighing, Listing, ours}
-use Rattle.reach.specs.declared.State.{State}
+use Rattle.calls.specs.Calls.{Calls, Stepped, Ranned, Weighing, Listing, ours}
+use Rattle.calls.specs.declared.State.{State}
 use Rattle.demands.specs.Hand.{Hand, updates, back}
 
 -- "One refusing everything": every call answers refusal n and leaves what was lent

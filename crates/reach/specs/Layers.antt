@@ -3,7 +3,7 @@
 use mathlib.Core.List.{List}
 use Prim.Native.Nat.{ℕ}
 use Rattle.layering.specs.Told.{LayersIs}
-use Rattle.reach.specs.declared.Listed.{Listed}
+use Rattle.calls.specs.declared.Listed.{Listed}
 
 abbrev pub LayersAnswer : List ℕ → List ℕ → List ℕ → Listed → Type 0
 LayersAnswer s out out₁ r = LayersIs s out out₁ (record { refusal = r .refusal; detail = r .detail; length = r .length })

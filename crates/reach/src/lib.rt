@@ -1,75 +1,22 @@
 // The calls of include/reach.h: what C may call, for any file, any memory and any numbers.
 //
 // Each call tests what 01 says it tests, in 01's order, hands the parts of the lent memory that are used to the crate that does the work,
-// and gives its answer in C's numbers (specs/Calls.antt, specs/Layers.antt).
+// and gives its answer in C's numbers (calls/specs/Calls.antt, specs/Layers.antt).
 
-mod questioning;
-mod stepping;
-
+use calls::Counts;
+use calls::Listed;
+use calls::Ran;
+use calls::Shared;
+use calls::State;
+use calls::Step;
+use calls::Weighed;
+use calls::questioning;
+use calls::stepping;
 use format::Verdict;
 ghost use mathlib.Core.Path.{_≡_};
-ghost use Rattle.reach.specs.Calls.{ours, StepIs, RanIs, WeightIs, ShareIs, ListIs};
+ghost use Rattle.calls.specs.Calls.{ours, StepIs, RanIs, WeightIs, ShareIs, ListIs};
 ghost use Rattle.reach.specs.Layers.{LayersAnswer};
 
-// reach_state
-#[repr(C)]
-pub struct State {
-    pub layer: u32,
-    pub nodes: u32,
-}
-
-// reach_counts
-#[repr(C)]
-pub struct Counts {
-    pub refusal: u32,
-    pub detail: u32,
-    pub facts: u32,
-    pub derived: u32,
-    pub total: u64,
-}
-
-// reach_step
-#[repr(C)]
-pub struct Step {
-    pub refusal: u32,
-    pub detail: u32,
-    pub state: State,
-}
-
-// reach_ran
-#[repr(C)]
-pub struct Ran {
-    pub refusal: u32,
-    pub detail: u32,
-    pub state: State,
-    pub outcome: u32,
-    pub updates: u64,
-}
-
-// reach_weighed
-#[repr(C)]
-pub struct Weighed {
-    pub refusal: u32,
-    pub detail: u32,
-    pub weight: u64,
-}
-
-// reach_shared
-#[repr(C)]
-pub struct Shared {
-    pub refusal: u32,
-    pub detail: u32,
-    pub both: u64,
-    pub evidence: u64,
-}
-
-// reach_listed
-#[repr(C)]
-pub struct Listed {
-    pub refusal: u32,
-    pub detail: u32,
-    pub length: u64,
-}
 // Reads a file's counts and total.
 #[no_mangle]
 pub extern "C" fn reach_read(file: &[u8]) -> Counts

@@ -16,7 +16,7 @@ use Rattle.rounds.specs.Layers.{lowestAbove, atomsFrom}
 use Rattle.rounds.specs.Load.{load}
 use Rattle.rounds.specs.Run.{runs as running}
 use Rattle.fitting.specs.Fit.{fitTogether}
-use Rattle.reach.specs.Calls.{Calls, ours}
+use Rattle.calls.specs.Calls.{Calls, ours}
 use Rattle.worked.specs.Files.{fileS}
 use Rattle.demands.specs.Hand.{Hand, runs, back, backFrom, Reached, by-load, by-run}
 

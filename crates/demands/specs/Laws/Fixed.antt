@@ -17,7 +17,7 @@ use Rattle.format.specs.File.{decode}
 use Rattle.rounds.specs.Layers.{finishedLayer, atomsOf}
 use Rattle.rounds.specs.Laws.Layers.{atoms-all, has-some, finished-none}
 use Rattle.state.specs.Laws.Fits.{passed-layered}
-use Rattle.reach.specs.Calls.{Calls, Ranned}
+use Rattle.calls.specs.Calls.{Calls, Ranned}
 use Rattle.demands.specs.Hand.{Hand, updates, closes, back, backFrom}
 use Rattle.demands.specs.Demands.{firstOf, closeTests, Answers, Each, inWork, Rounds, Ends, RunAs}
 use Rattle.demands.specs.Laws.Holding.{in-hand}

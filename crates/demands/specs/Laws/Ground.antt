@@ -14,7 +14,7 @@ use Rattle.format.specs.Laws.Decoded.{decode-atoms}
 use Rattle.rounds.specs.Layers.{finishedLayer}
 use Rattle.rounds.specs.Reached as stores
 use Rattle.state.specs.Laws.Fits.{passed-layered}
-use Rattle.reach.specs.Calls.{ours, fits}
+use Rattle.calls.specs.Calls.{ours, fits}
 use Rattle.fitting.specs.Laws.Fit.{fits-inner}
 use Rattle.demands.specs.Hand.{Hand, store, Reached}
 use Rattle.demands.specs.Laws.Reached.{Stood, reached-stood}

@@ -33,7 +33,7 @@ use Rattle.rounds.specs.Fit.{Fit}
 use Rattle.state.specs.Answers.{wordsOf}
 use Rattle.state.specs.Laws.Fits.{fits-lent, lent-holds, holds-store}
 use Rattle.fitting.specs.Fit.{wordsIn, placesIn, passes, storeFits, fitTogether}
-use Rattle.reach.specs.Calls.{fits}
+use Rattle.calls.specs.Calls.{fits}
 use Rattle.fitting.specs.Laws.Fit.{fits-store, fits-inner, fits-long}
 use Rattle.fitting.specs.Laws.FitParts.{row-all}
 use Rattle.demands.specs.Hand.{Hand, room, store, unfit}

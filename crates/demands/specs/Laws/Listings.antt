@@ -20,7 +20,7 @@ use Rattle.rounds.specs.Laws.Made.{fit-held}
 use Rattle.rounds.specs.Laws.Reached.{reached-standing, finished-exact}
 use Rattle.questions.specs.Questions.{listed}
 use Rattle.questions.specs.Laws.Listings.{listing-holds, listings-same}
-use Rattle.reach.specs.Calls.{ours, Listing, listingRefusal}
+use Rattle.calls.specs.Calls.{ours, Listing, listingRefusal}
 use Rattle.demands.specs.Demands.{listingOf, written, Canonical}
 use Rattle.demands.specs.Hand.{Hand, store, lists, Reached}
 use Rattle.demands.specs.Laws.Ground.{Ground, ground, finished}

@@ -35,7 +35,7 @@ use Rattle.rounds.specs.Load.{factNode, loadedStore, Loaded, loaded, loadFull, 
 use Rattle.rounds.specs.Calls.{Answer, after, refused}
 use Rattle.rounds.specs.Laws.Load.{load-full}
 use Rattle.fitting.specs.Fit.{roomIn}
-use Rattle.reach.specs.Calls.{loading, loadAnswer}
+use Rattle.calls.specs.Calls.{loading, loadAnswer}
 use Rattle.demands.specs.Laws.Ways.{Refusing}
 
 -- a loaded store is the facts' nodes, which have room

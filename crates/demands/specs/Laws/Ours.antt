@@ -1,5 +1,5 @@
 -- The exported calls meet the three demands.
-use Rattle.reach.specs.Calls.{ours}
+use Rattle.calls.specs.Calls.{ours}
 use Rattle.demands.specs.Demands.{Demands}
 use Rattle.demands.specs.Laws.One.Answers.{ours-answers}
 use Rattle.demands.specs.Laws.Two.Steps.{ours-load, ours-update}

@@ -23,7 +23,7 @@ use Rattle.rounds.specs.Laws.Reached.{reached-standing}
 use Rattle.state.specs.Answers.{wordsOf}
 use Rattle.state.specs.Laws.Fits.{passed-layered}
 use Rattle.fitting.specs.Fit.{roomIn, wordsIn, placesIn}
-use Rattle.reach.specs.Calls.{stepped, ours}
+use Rattle.calls.specs.Calls.{stepped, ours}
 use Rattle.demands.specs.Hand.{
   Hand,
   room,

@@ -20,7 +20,7 @@ use Rattle.rounds.specs.Layers.{lowestAbove, atomsFrom}
 use Rattle.rounds.specs.Close.{check}
 use Rattle.rounds.specs.Calls.{updateCall}
 use Rattle.fitting.specs.Fit.{fitTogether}
-use Rattle.reach.specs.Calls.{Ranned, ours}
+use Rattle.calls.specs.Calls.{Ranned, ours}
 use Rattle.worked.specs.Files.{fileS}
 use Rattle.demands.specs.Hand.{Hand, closes, runs, back, Reached, by-close}
 use Rattle.demands.specs.Demands.{firstOf, Each, Rounds, Ends, RunAs, Demands}

@@ -14,7 +14,7 @@ use Rattle.rounds.specs.Layers.{finishedLayer}
 use Rattle.rounds.specs.Close.{Closing, closed, unsettled, checkFull, close}
 use Rattle.rounds.specs.Run.{run}
 use Rattle.rounds.specs.Calls.{Answer, after, refused, updated, updateCall, shut, closeCall}
-use Rattle.reach.specs.Calls.{Stepped, Ranned, fits, stepped, ranned, ours}
+use Rattle.calls.specs.Calls.{Stepped, Ranned, fits, stepped, ranned, ours}
 use Rattle.demands.specs.Hand.{Hand, room, store, unfit, updates, closes, runs}
 
 -- the answer is a refusal

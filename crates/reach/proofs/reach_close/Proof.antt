@@ -1,7 +1,7 @@
 -- `reach_close` meets its contract: 36 first, then the used parts of the lent memory are handed on. Assumes nothing.
 use borrow.Author.Needs.{needs}
 use borrow.Author.Tests.{not-true, not-false}
-use Rattle.reach.specs.Laws.Stepping.{close-misfit, close-parts, room-size, places-size, long-enough, parts-fit}
+use Rattle.calls.specs.Laws.Stepping.{close-misfit, close-parts, room-size, places-size, long-enough, parts-fit}
 use Rattle.reach.proofs.reach_close.Statement.{statement}
 use Rattle.reach.proofs.reach_close.Tie as tie
 

@@ -1,7 +1,7 @@
 -- `reach_given` meets its contract: what fits is handed on in its used parts, and else the answer is 36 (Laws/Sharing).
 use borrow.Author.Needs.{needs}
-use Rattle.reach.specs.Laws.Questioning.{room-part, places-part, inner-asked}
-use Rattle.reach.specs.Laws.Sharing as laws
+use Rattle.calls.specs.Laws.Questioning.{room-part, places-part, inner-asked}
+use Rattle.calls.specs.Laws.Sharing as laws
 use Rattle.reach.proofs.reach_given.Statement.{statement}
 use Rattle.reach.proofs.reach_given.Tie as tie
 

@@ -1,6 +1,6 @@
 -- `reach_listing` meets its contract: what fits is handed on in its used parts, and else the answer is 36 (Laws/Questioning).
 use borrow.Author.Needs.{needs}
-use Rattle.reach.specs.Laws.Questioning as laws
+use Rattle.calls.specs.Laws.Questioning as laws
 use Rattle.reach.proofs.reach_listing.Statement.{statement}
 use Rattle.reach.proofs.reach_listing.Tie as tie
 

@@ -1,7 +1,7 @@
 -- `reach::reach_read` meets its contract: each case of the verdict, in C's numbers.
 use borrow.Author.Needs.{needs}
 use mathlib.Core.Path.{sym, ap, _∙_}
-use Rattle.reach.specs.Calls.{counts}
+use Rattle.calls.specs.Calls.{counts}
 use Rattle.reach.proofs.reach_read.Statement.{statement}
 use Rattle.reach.proofs.reach_read.Tie as tie
 

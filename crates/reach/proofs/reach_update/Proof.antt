@@ -1,7 +1,7 @@
 -- `reach_update` meets its contract: 36 first, then the used parts of the lent memory are handed on. Assumes nothing.
 use borrow.Author.Needs.{needs}
 use borrow.Author.Tests.{not-true, not-false}
-use Rattle.reach.specs.Laws.Stepping.{update-misfit, update-parts, room-size, places-size, long-enough, parts-fit}
+use Rattle.calls.specs.Laws.Stepping.{update-misfit, update-parts, room-size, places-size, long-enough, parts-fit}
 use Rattle.reach.proofs.reach_update.Statement.{statement}
 use Rattle.reach.proofs.reach_update.Tie as tie
 

@@ -1,5 +1,5 @@
 -- The first demand: the exported calls answer every file, question and order of calls, and a refused call leaves all as it stood.
-use Rattle.reach.specs.Calls.{ours}
+use Rattle.calls.specs.Calls.{ours}
 use Rattle.demands.specs.Demands.{Answers}
 use Rattle.demands.specs.Laws.One.Reading.{ours-read}
 use Rattle.demands.specs.Laws.One.Stepping.{ours-load, ours-update, ours-run}

@@ -19,7 +19,7 @@ use Rattle.rounds.specs.Calls.{Answer, refused, updated, updateCall, shut}
 use Rattle.rounds.specs.Laws.Layers.{atoms-layer, atoms-derived}
 use Rattle.rounds.specs.Laws.Made.{fit-update}
 use Rattle.rounds.specs.Laws.Close.{close-only}
-use Rattle.reach.specs.Calls.{Stepped, fits, stepped, ours}
+use Rattle.calls.specs.Calls.{Stepped, fits, stepped, ours}
 use Rattle.demands.specs.Hand.{Hand, room, store, updates, closes, back}
 use Rattle.demands.specs.Demands.{
   firstOf,

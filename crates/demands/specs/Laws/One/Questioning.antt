@@ -14,7 +14,7 @@ use Rattle.format.specs.File.{decode}
 use Rattle.store.specs.Calls.{zeroed}
 use Rattle.rounds.specs.Layers.{finishedLayer}
 use Rattle.questions.specs.Questions.{weightSoFar, listed}
-use Rattle.reach.specs.Calls.{Weighing, Listing, fits, weightRefusal, listingRefusal, ours}
+use Rattle.calls.specs.Calls.{Weighing, Listing, fits, weightRefusal, listingRefusal, ours}
 use Rattle.demands.specs.Hand.{Hand, room, store, weighs, lists}
 use Rattle.demands.specs.Demands.{firstOf, weightTests, listingTests, Weighs, Lists}
 use Rattle.demands.specs.Laws.Tests.{above-not, below-not}

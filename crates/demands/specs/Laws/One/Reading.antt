@@ -22,7 +22,7 @@ use Rattle.format.specs.declared.Refusal.the-variants.{
 }
 use Rattle.format.specs.declared.Verdict.{Verdict}
 use Rattle.format.specs.declared.Verdict.the-variants.{Accepted, Refused}
-use Rattle.reach.specs.Calls.{counts, ours}
+use Rattle.calls.specs.Calls.{counts, ours}
 use Rattle.demands.specs.Demands.{fileRefusal, fileDetail, Reads}
 
 -- every refusal of a file has a number

@@ -15,7 +15,7 @@ use Rattle.diagram.specs.Diagram.{leaf, says}
 use Rattle.update.specs.Update.{diagramAt, bodyBuilds, isFull}
 use Rattle.rounds.specs.Layers.{finishedLayer}
 use Rattle.questions.specs.Questions.{Given, share, noWeight, givenFull, given as givenOf, asked, conjunction}
-use Rattle.reach.specs.Calls.{Sharing, fits, knows, givenRefusal, sharing, ours}
+use Rattle.calls.specs.Calls.{Sharing, fits, knows, givenRefusal, sharing, ours}
 use Rattle.demands.specs.Hand.{Hand, room, store, shares}
 use Rattle.demands.specs.Demands.{firstOf, givenTests, Shares}
 use Rattle.demands.specs.Laws.Tests.{below-not}

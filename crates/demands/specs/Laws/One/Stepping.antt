@@ -17,7 +17,7 @@ use Rattle.rounds.specs.Load.{loaded, loadFull, loadBuilds, loadedStore, load a
 use Rattle.rounds.specs.Run.{Ran, run as runOf}
 use Rattle.rounds.specs.Calls.{Answer, after, refused, updated, updateCall}
 use Rattle.fitting.specs.Fit.{roomIn, passes}
-use Rattle.reach.specs.Calls.{Ranned, fits, stepped, ranned, loading, loadAnswer, ours}
+use Rattle.calls.specs.Calls.{Ranned, fits, stepped, ranned, loading, loadAnswer, ours}
 use Rattle.demands.specs.Hand.{Hand, room, store, updates, runs}
 use Rattle.demands.specs.Demands.{firstOf, fileRefusal, fileDetail, loadTests, updateTests, Steps, Runs}
 use Rattle.demands.specs.Laws.Tests.{above-not, below-not}

@@ -14,7 +14,7 @@ use Rattle.rounds.specs.Laws.Reached.{reached-standing}
 use Rattle.rounds.specs.Budget.{cost}
 use Rattle.rounds.specs.Laws.Bound.{run-enough}
 use Rattle.state.specs.Laws.Fits.{passed-layered}
-use Rattle.reach.specs.Calls.{outcome, ours}
+use Rattle.calls.specs.Calls.{outcome, ours}
 use Rattle.demands.specs.Hand.{Hand, room, store, unfit, runs, Reached}
 use Rattle.demands.specs.Laws.Holding.{in-hand}
 use Rattle.demands.specs.Laws.Reached.{reached-stood}

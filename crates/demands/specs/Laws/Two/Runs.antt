@@ -22,7 +22,7 @@ use Rattle.rounds.specs.Laws.Budget.{run-within}
 use Rattle.rounds.specs.Laws.Skip.{next-finished}
 use Rattle.state.specs.Laws.Fits.{passed-layered}
 use Rattle.fitting.specs.Fit.{placesIn}
-use Rattle.reach.specs.Calls.{Stepped, outcome, ranned, ours}
+use Rattle.calls.specs.Calls.{Stepped, outcome, ranned, ours}
 use Rattle.demands.specs.Hand.{Hand, room, store, updates, closes, runs, back}
 use Rattle.demands.specs.Demands.{Each, none, next, Rounds, round, closing, Ends, finished, spent, RunAs}
 use Rattle.demands.specs.Demands as hands

@@ -17,7 +17,7 @@ use Rattle.rounds.specs.Layers.{finishedLayer}
 use Rattle.rounds.specs.Reached as stores
 use Rattle.questions.specs.Questions.{asked, conjunction, Given, share, noWeight, givenFull, given as givenIn}
 use Rattle.questions.specs.Laws.Answers.{answer, given-is, given-exact, given-none, given-weightless}
-use Rattle.reach.specs.Calls.{ours, Sharing, sharing, knows, givenRefusal}
+use Rattle.calls.specs.Calls.{ours, Sharing, sharing, knows, givenRefusal}
 use Rattle.demands.specs.Demands.{firstOf, Shared}
 use Rattle.demands.specs.Hand.{Hand, room, store, shares, Reached}
 use Rattle.demands.specs.Laws.Ground.{Ground, ground, finished}

@@ -20,7 +20,7 @@ use Rattle.rounds.specs.Load.{loadedStore}
 use Rattle.rounds.specs.Laws.Made.{made, fit-held, load-sound}
 use Rattle.rounds.specs.Laws.Each.{made-room, made-other}
 use Rattle.fitting.specs.Fit.{roomIn}
-use Rattle.reach.specs.Calls.{stepped, ours}
+use Rattle.calls.specs.Calls.{stepped, ours}
 use Rattle.demands.specs.Hand.{Hand, room, store, updates, back}
 use Rattle.demands.specs.Demands.{Tidy, Loaded, Updated}
 use Rattle.demands.specs.Laws.Holding.{holding, Filled, InHand, holding-filled, holding-store, in-hand}

@@ -12,7 +12,7 @@ use Rattle.format.specs.File.{decode}
 use Rattle.store.specs.Calls.{zeroed}
 use Rattle.questions.specs.Questions.{weightSoFar}
 use Rattle.questions.specs.Laws.Answers.{weight-so-far-below, weight-so-far-exact}
-use Rattle.reach.specs.Calls.{ours, Weighing, weightRefusal}
+use Rattle.calls.specs.Calls.{ours, Weighing, weightRefusal}
 use Rattle.demands.specs.Demands.{Weighed}
 use Rattle.demands.specs.Hand.{Hand, room, store, weighs, Reached}
 use Rattle.demands.specs.Laws.Ground.{Ground, ground, finished}

@@ -22,13 +22,13 @@ use Rattle.building.specs.Calls.{storeIn}
 use Rattle.state.specs.Answers.{wordsOf}
 use Rattle.questions.specs.Questions.{weightSoFar, Given, share, noWeight, givenFull, given as givenOf, listed}
 use Rattle.fitting.specs.Fit.{roomIn, wordsIn, placesIn, fitTogether}
-use Rattle.reach.specs.declared.Counts.{Counts}
-use Rattle.reach.specs.declared.State.{State}
-use Rattle.reach.specs.declared.Step.{Step}
-use Rattle.reach.specs.declared.Ran as declared-ran
-use Rattle.reach.specs.declared.Weighed as declared-weighed
-use Rattle.reach.specs.declared.Shared as declared-shared
-use Rattle.reach.specs.declared.Listed as declared-listed
+use Rattle.calls.specs.declared.Counts.{Counts}
+use Rattle.calls.specs.declared.State.{State}
+use Rattle.calls.specs.declared.Step.{Step}
+use Rattle.calls.specs.declared.Ran as declared-ran
+use Rattle.calls.specs.declared.Weighed as declared-weighed
+use Rattle.calls.specs.declared.Shared as declared-shared
+use Rattle.calls.specs.declared.Listed as declared-listed
 
 -- ---- reading
 

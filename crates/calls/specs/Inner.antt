@@ -13,8 +13,8 @@ use Rattle.state.specs.declared.How.{How}
 use Rattle.state.specs.declared.How.the-variants as how
 use Rattle.questions.specs.Questions.{weightSoFar, Given, share, noWeight, givenFull, given as givenOf, listed}
 use Rattle.rounds.specs.Layers.{finishedLayer}
-use Rattle.reach.specs.Calls.{Weighing, Sharing, knows, Listing}
-use Rattle.reach.specs.declared.State.{State}
+use Rattle.calls.specs.Calls.{Weighing, Sharing, knows, Listing}
+use Rattle.calls.specs.declared.State.{State}
 
 -- file, words, places and state fit together, as the engine asks it
 abbrev pub InnerFits : List ℕ → List ℕ → List ℕ → State → Type 0
