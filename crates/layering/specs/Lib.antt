@@ -1,8 +1,6 @@
-pub mod Layering
 pub mod Rising
 pub mod Calls
 pub mod Inner
-pub mod Searching
 pub mod Told
 pub mod Written
 pub mod Laws

@@ -9,7 +9,8 @@ use Rattle.format.specs.Refusals.{verdictBy, number, detail}
 use Rattle.format.specs.Laws.Accepted.{Formed}
 use Rattle.format.specs.declared.Refusal.{Refusal}
 use Rattle.format.specs.declared.Verdict.the-variants.{Refused}
-use Rattle.layering.specs.Calls.{LayersDone, HighDone, ChainDone}
+use Rattle.chains.specs.Calls.{ChainDone}
+use Rattle.layering.specs.Calls.{LayersDone, HighDone}
 use Rattle.layering.specs.declared.Told.{Told}
 
 -- "24, in this call only, writes there too"; at every other refusal nothing is written

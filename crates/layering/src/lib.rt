@@ -1,7 +1,5 @@
 // Layers worked out from the rules alone (document 02, L4): the smallest, or a chain of rules that leaves none.
-mod chain;
 mod rising;
-mod search;
 
 use format::Verdict;
 use format::bytes::u16_at;
@@ -32,7 +30,8 @@ pub fn layers(file: &[u8], out: &mut [u8]) -> Found
     if rising::settle(file, &mut room[..derived], facts, derived, rules) {
         return rising::written(file, &room[..derived], facts, derived, rules, out);
     }
-    chain::find(file, facts, derived, rules, out)
+    let lowest = chains::chain::find(file, facts, derived, rules, out);
+    Found::Chain(lowest.atom, lowest.count)
 }
 
 // The call's answer: a refusal with its detail, or none, and how many bytes were written.

@@ -1,7 +1,7 @@
 -- `layering::layers` meets its contract. Assumes nothing.
 use native.Mathlib.Omega.{arith}
 use borrow.Author.Needs.{needs}
-use Rattle.layering.specs.Calls.{Sized}
+use Rattle.chains.specs.Calls.{Sized}
 use Rattle.layering.specs.Laws.Whole.{ones-room, ones-size, settle-asked, front-room, front-size, write-asked, find-asked}
 use Rattle.layering.proofs.layers.Statement.{statement}
 use Rattle.layering.proofs.layers.Tie as tie

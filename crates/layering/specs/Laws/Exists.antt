@@ -9,14 +9,14 @@ use native.Mathlib.Decide.{decLt}
 use lib.ListN.{length, getD}
 use lib.Seq.{ext-getD}
 use Rattle.meaning.specs.Meaning.{Program, Known}
-use Rattle.layering.specs.Layering.{Legal, Smallest, Chain}
+use Rattle.chains.specs.Layering.{Legal, Smallest, Chain}
+use Rattle.chains.specs.Laws.Legal.{links-rise}
+use Rattle.chains.specs.Laws.Walk.{Walk, walk-legal}
+use Rattle.chains.specs.Laws.Cut.{SomeChain, straight, straight-length}
 use Rattle.layering.specs.Rising.{layerIn, passes}
-use Rattle.layering.specs.Laws.Legal.{links-rise}
 use Rattle.layering.specs.Laws.Pass.{in-fact, in-place}
-use Rattle.layering.specs.Laws.Walk.{Walk, walk-legal}
 use Rattle.layering.specs.Laws.Passes.{passes-length, passes-below, passes-asks, walk-passes}
 use Rattle.layering.specs.Laws.Walked.{passes-walked}
-use Rattle.layering.specs.Laws.Cut.{SomeChain, straight, straight-length}
 
 -- a chain leaves no legal layering: going round it the layer would rise
 pub chain-none : (P : Program) (js : List ℕ) → Chain P js → (layer : ℕ → ℕ) → Legal P layer → ⊥

@@ -6,10 +6,10 @@ use Prim.Native.Nat.{ℕ, zero, suc, _+_, _-_, _≤_, _<_}
 use native.Mathlib.Omega.{arith}
 use lib.ListN.{length, length-replicate, getD-replicate}
 use Rattle.meaning.specs.Meaning.{Literal, Rule, Program, atoms, Known}
+use Rattle.chains.specs.Laws.Legal.{rule-in}
+use Rattle.chains.specs.Laws.Walk.{Walk}
 use Rattle.layering.specs.Rising.{layerIn, passes}
-use Rattle.layering.specs.Laws.Legal.{rule-in}
 use Rattle.layering.specs.Laws.Pass.{Below, in-derived, in-below, pass-length, pass-below, pass-asks}
-use Rattle.layering.specs.Laws.Walk.{Walk}
 
 -- there are as many layers as derived atoms
 pub passes-length : (P : Program) (n : ℕ) → length (passes P n) ≡ length (P .layers)

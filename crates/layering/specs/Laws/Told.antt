@@ -27,9 +27,9 @@ use Rattle.format.specs.declared.Refusal.the-variants.{
   Layers,
 }
 use Rattle.format.specs.declared.Verdict.the-variants.{Refused}
-use Rattle.layering.specs.Layering.{Smallest}
+use Rattle.chains.specs.Layering.{Smallest}
+use Rattle.chains.specs.Laws.Cut.{SomeChain}
 use Rattle.layering.specs.Calls.{HighDone}
-use Rattle.layering.specs.Laws.Cut.{SomeChain}
 use Rattle.layering.specs.Laws.Exists.{chain-none}
 use Rattle.layering.specs.Told.{LayersIs, short, refused, chain, high, done}
 use Rattle.layering.specs.declared.Told.{Told}

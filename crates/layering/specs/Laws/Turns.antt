@@ -13,7 +13,7 @@ use Rattle.format.specs.File.{F, D, R, startOf, literalAt, ruleAt, decode}
 use Rattle.format.specs.Walk.{firstAt}
 use Rattle.format.specs.Laws.Decoded.{decode-rules}
 use Rattle.format.specs.Laws.Walked.{first-start}
-use Rattle.layering.specs.Layering.{ruleOf}
+use Rattle.chains.specs.Layering.{ruleOf}
 use Rattle.layering.specs.Rising.{asks, pass}
 use Rattle.layering.specs.Inner.{bodyAt, BodyAsked, PassAsked, PassDone}
 use Rattle.layering.specs.Laws.Pass.{Below, raised, raised-below}

@@ -10,11 +10,11 @@ use native.Mathlib.Decide.{decLe, decLt, ℕ-discrete}
 use lib.ListN.{length, getD, length-set}
 use lib.Seq.{getD-set-same, getD-set-other}
 use Rattle.meaning.specs.Meaning.{Literal, Rule, Program, atoms, Known}
-use Rattle.layering.specs.Layering.{ruleOf}
+use Rattle.chains.specs.Layering.{ruleOf}
+use Rattle.chains.specs.Laws.Legal.{rule-in}
+use Rattle.chains.specs.Laws.Walk.{Walk}
 use Rattle.layering.specs.Rising.{layerIn, asks, pass, passes}
-use Rattle.layering.specs.Laws.Legal.{rule-in}
 use Rattle.layering.specs.Laws.Pass.{raised, in-fact, in-derived}
-use Rattle.layering.specs.Laws.Walk.{Walk}
 use Rattle.layering.specs.Laws.Passes.{passes-length, start-one}
 
 -- some walk from the atom weighs v or more

@@ -6,7 +6,8 @@ use Prim.Native.Nat.{ℕ, _≤_}
 use native.Mathlib.Omega.{arith}
 use lib.ListN.{length, take, replicate, length-append, length-replicate, getD-replicate}
 use lib.Seq.{length-take-le, getD-take, take-at}
-use Rattle.layering.specs.Calls.{Sized, SettleAsked, Settled, WriteAsked, FindAsked}
+use Rattle.chains.specs.Calls.{Sized, FindAsked}
+use Rattle.layering.specs.Calls.{SettleAsked, Settled, WriteAsked}
 
 -- room for every derived atom, and 1 in each place
 abbrev pub ones : List ℕ

@@ -24,7 +24,7 @@ use Rattle.format.specs.declared.Verdict.the-variants.{Accepted}
 use Rattle.diagram.specs.Diagram.{diagramOf}
 use Rattle.diagram.specs.Listing.{listing}
 use Rattle.diagram.specs.Laws.Function.{of-good, of-says, of-only}
-use Rattle.layering.specs.Layering.{Legal}
+use Rattle.chains.specs.Layering.{Legal}
 use Rattle.layering.specs.Written.{relayered}
 use Rattle.layering.specs.Laws.Models.{layers-any}
 

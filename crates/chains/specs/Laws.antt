@@ -1,0 +1,13 @@
+pub mod Legal
+pub mod Walk
+pub mod Apart
+pub mod Cut
+pub mod Places
+pub mod Around
+pub mod Lead
+pub mod Visit
+pub mod Queue
+pub mod Closed
+pub mod Way
+pub mod Write
+pub mod Found

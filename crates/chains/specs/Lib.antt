@@ -1,0 +1,4 @@
+pub mod Layering
+pub mod Calls
+pub mod Searching
+pub mod Laws
