@@ -13,9 +13,6 @@
 #include <stdlib.h>
 #include <string.h>
 
-#define NODES 4096
-#define ATOMS 544
-#define BUDGET 262656
 
 static uint8_t file[65536];
 static size_t length;
@@ -62,7 +59,7 @@ static uint32_t literal(const uint8_t *layer, uint32_t atoms, uint32_t head)
 
 static void draw_file(void)
 {
-    uint8_t layer[ATOMS] = {0};
+    uint8_t layer[REACH_PLACES] = {0};
     uint32_t facts = below(13), derived = below(4) == 0 ? below(60) : below(10), rules = derived == 0 ? 0 : below(4 * derived + 1), i, j;
     uint32_t layers = 1 + below(4), longest = 1 + below(6);
     length = 0;
@@ -98,23 +95,23 @@ static void damage(void)
 
 typedef struct {
     engine_answer answer;
-    uint64_t weights[ATOMS];
+    uint64_t weights[REACH_PLACES];
 } whole;
 
 /* The library's counts are those of reach_read, where it does not refuse. */
 static void library(uint32_t room, whole *w)
 {
-    static uint32_t nodes[NODES];
-    static uint16_t places[ATOMS];
-    static uint64_t numbers[NODES + 2];
-    reach_step loaded = reach_load(file, length, nodes, room, places, ATOMS);
+    static uint32_t nodes[REACH_NODES];
+    static uint16_t places[REACH_PLACES];
+    static uint64_t numbers[REACH_NUMBERS];
+    reach_step loaded = reach_load(file, length, nodes, room, places, REACH_PLACES);
     reach_counts counts = reach_read(file, length);
     reach_ran ran;
     uint32_t a;
     w->answer.refusal = loaded.refusal;
     w->answer.detail = loaded.detail;
     if (loaded.refusal != 0) return;
-    ran = reach_run(file, length, nodes, room, places, ATOMS, loaded.state, BUDGET);
+    ran = reach_run(file, length, nodes, room, places, REACH_PLACES, loaded.state, REACH_BUDGET);
     w->answer.refusal = ran.refusal;
     w->answer.detail = ran.detail;
     w->answer.outcome = ran.outcome;
@@ -122,14 +119,14 @@ static void library(uint32_t room, whole *w)
     w->answer.facts = counts.facts;
     w->answer.derived = counts.derived;
     w->answer.total = counts.total;
-    for (a = 0; ran.outcome == 1 && a < counts.facts + counts.derived; a++)
-        w->weights[a] = reach_weight(file, length, nodes, room, places, ATOMS, ran.state, a, numbers, room + 2).weight;
+    for (a = 0; ran.outcome == REACH_RAN_FINISHED && a < counts.facts + counts.derived; a++)
+        w->weights[a] = reach_weight(file, length, nodes, room, places, REACH_PLACES, ran.state, a, numbers, room + 2).weight;
 }
 
 static void engine(uint32_t room, whole *w)
 {
     w->answer = engine_run(file, length, room);
-    if (w->answer.outcome == 1) engine_weights(w->weights);
+    if (w->answer.outcome == REACH_RAN_FINISHED) engine_weights(w->weights);
 }
 
 #ifdef BUDDY
@@ -137,7 +134,7 @@ static void buddy(uint32_t room, whole *w)
 {
     buddy_start();
     w->answer = buddy_run(file, length, room);
-    if (w->answer.outcome == 1) buddy_weights(w->weights);
+    if (w->answer.outcome == REACH_RAN_FINISHED) buddy_weights(w->weights);
     buddy_end();
 }
 #endif
@@ -181,7 +178,7 @@ int main(int count, char **words)
         below(2);
         draw_file();
         if (below(2) == 0) damage();
-        room = below(2) == 0 ? NODES : below(60);
+        room = below(2) == 0 ? REACH_NODES : below(60);
         memset(&ours, 0, sizeof ours);
         library(room, &ours);
         outcomes[ours.answer.outcome]++;
@@ -190,7 +187,7 @@ int main(int count, char **words)
         ok &= compare(i, room, &ours, buddy, "BuDDy");
 #endif
     }
-    printf("%" PRIu32 " files: %" PRIu32 " finished, %" PRIu32 " full, ", draws, outcomes[1], outcomes[3]);
-    printf("%" PRIu32 " refused; %s\n", outcomes[0], ok ? "all answers equal" : "answers differ");
+    printf("%" PRIu32 " files: %" PRIu32 " finished, %" PRIu32 " full, ", draws, outcomes[REACH_RAN_FINISHED], outcomes[REACH_RAN_FULL]);
+    printf("%" PRIu32 " refused; %s\n", outcomes[REACH_RAN_REFUSED], ok ? "all answers equal" : "answers differ");
     return !ok;
 }

@@ -13,7 +13,7 @@ extern "C" {
 typedef struct {
     uint32_t refusal; /* 0: run; else document 01's number, and every other number but the detail is 0 */
     uint32_t detail;
-    uint32_t outcome; /* 0 refused, 1 finished, 3 full, as in reach.h */
+    uint32_t outcome; /* 0 refused, 1 finished, 3 full, as REACH_RAN_.. of reach.h */
     uint32_t facts;
     uint32_t derived;
     uint64_t total;

@@ -5,8 +5,10 @@ The same seed gives the same bytes. Each family asks something else of an engine
 """
 import os
 import random
-import struct
 import sys
+
+sys.path.insert(0, os.path.join(os.path.dirname(os.path.abspath(__file__)), '..', 'tools'))
+from reach_file import encode, no, yes
 
 
 class Program:
@@ -29,7 +31,7 @@ class Program:
         self.rules.append((head, body))
 
     def literal(self, text):
-        return 2 * self.number[text.lstrip('~')] + text.startswith('~')
+        return no(self.number[text[1:]]) if text.startswith('~') else yes(self.number[text])
 
     def weights(self, chance):
         """Weights as large as the total allows, at most 10,000 a fact."""
@@ -39,22 +41,11 @@ class Program:
         for _ in range(self.facts):
             both = chance.randint(max(2, largest // 2), largest)
             on = chance.randint(1, both - 1)
-            yield struct.pack('<HH', on, both - on)
+            yield on, both - on
 
     def bytes(self, chance):
-        facts, derived, rules = self.facts, len(self.layers), len(self.rules)
-        assert facts <= 32 and derived <= 512 and rules <= 2048
-        out = [struct.pack('<HH', 1, 3)]
-        for kind, items, offset in ((1, facts, 28), (2, derived, 28 + 4 * facts), (3, rules, 28 + 4 * facts + derived)):
-            out.append(struct.pack('<HHI', kind, items, offset))
-        out.extend(self.weights(chance))
-        out.append(bytes(self.layers))
-        for head, body in self.rules:
-            assert len(body) <= 16
-            out.append(struct.pack('<%dH' % (2 + len(body)), self.number[head], len(body), *map(self.literal, body)))
-        whole = b''.join(out)
-        assert len(whole) <= 65536
-        return whole
+        rules = [(self.number[head], list(map(self.literal, body))) for head, body in self.rules]
+        return encode(list(self.weights(chance)), self.layers, rules)
 
 
 def names(word, n):

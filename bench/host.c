@@ -29,9 +29,6 @@
 #include <string.h>
 #include <time.h>
 
-#define NODES 4096
-#define ATOMS 544
-#define BUDGET 262656
 #define ROUNDS 25
 #define BATCH 1e5  /* nanoseconds between two looks at the clock */
 #define LEAST 2e6  /* nanoseconds of one side in a round */
@@ -42,20 +39,20 @@ static size_t length;
 
 /* ---- The three sides, each with an answer and weights. ---- */
 
-static uint32_t nodes[NODES];
-static uint16_t places[ATOMS];
-static uint64_t numbers[NODES + 2];
+static uint32_t nodes[REACH_NODES];
+static uint16_t places[REACH_PLACES];
+static uint64_t numbers[REACH_NUMBERS];
 static reach_state state;
 
 static engine_answer library_run(void)
 {
     engine_answer answer = {0, 0, 0, 0, 0, 0, 0};
-    reach_step loaded = reach_load(file, length, nodes, NODES, places, ATOMS);
+    reach_step loaded = reach_load(file, length, nodes, REACH_NODES, places, REACH_PLACES);
     reach_ran ran;
     answer.refusal = loaded.refusal;
     answer.detail = loaded.detail;
     if (loaded.refusal != 0) return answer;
-    ran = reach_run(file, length, nodes, NODES, places, ATOMS, loaded.state, BUDGET);
+    ran = reach_run(file, length, nodes, REACH_NODES, places, REACH_PLACES, loaded.state, REACH_BUDGET);
     answer.refusal = ran.refusal;
     answer.detail = ran.detail;
     answer.outcome = ran.outcome;
@@ -68,12 +65,12 @@ static void library_weights(uint64_t *weights, uint32_t atoms)
 {
     uint32_t a;
     for (a = 0; a < atoms; a++)
-        weights[a] = reach_weight(file, length, nodes, NODES, places, ATOMS, state, a, numbers, NODES + 2).weight;
+        weights[a] = reach_weight(file, length, nodes, REACH_NODES, places, REACH_PLACES, state, a, numbers, REACH_NUMBERS).weight;
 }
 
 static engine_answer hand_run(void)
 {
-    return engine_run(file, length, NODES);
+    return engine_run(file, length, REACH_NODES);
 }
 
 static void hand_weights(uint64_t *weights, uint32_t atoms)
@@ -85,7 +82,7 @@ static void hand_weights(uint64_t *weights, uint32_t atoms)
 #ifdef BUDDY
 static engine_answer bdd_run(void)
 {
-    return buddy_run(file, length, NODES);
+    return buddy_run(file, length, REACH_NODES);
 }
 
 static void bdd_weights(uint64_t *weights, uint32_t atoms)
@@ -116,7 +113,7 @@ static const side sides[] = {
 
 typedef struct {
     engine_answer answer;
-    uint64_t weights[ATOMS];
+    uint64_t weights[REACH_PLACES];
 } whole;
 
 static uint32_t atoms_of(void)
@@ -131,7 +128,7 @@ static whole job(const side *s, uint32_t atoms)
     memset(&w, 0, sizeof w);
     if (s->start != NULL) s->start();
     w.answer = s->run();
-    if (w.answer.outcome == 1) s->weights(w.weights, atoms);
+    if (w.answer.outcome == REACH_RAN_FINISHED) s->weights(w.weights, atoms);
     if (s->end != NULL) s->end();
     return w;
 }
@@ -171,7 +168,7 @@ static int agree(const char *name, whole *first)
 
 /* ---- Timing. ---- */
 
-static uint64_t sink[ATOMS];
+static uint64_t sink[REACH_PLACES];
 
 static double look; /* what one look at the clock costs */
 
@@ -200,7 +197,7 @@ static double once(const side *s, int weights, uint32_t atoms)
     if (s->start != NULL) s->start();
     start = now();
     answer = s->run();
-    if (weights && answer.outcome == 1) s->weights(sink, atoms);
+    if (weights && answer.outcome == REACH_RAN_FINISHED) s->weights(sink, atoms);
     time = now() - start - look;
     if (s->end != NULL) s->end();
     return time;
@@ -217,7 +214,7 @@ static double mean(const side *s, int weights, uint32_t atoms, long repeats)
     }
     for (i = 0; i < repeats; i++) {
         engine_answer answer = s->run();
-        if (weights && answer.outcome == 1) s->weights(sink, atoms);
+        if (weights && answer.outcome == REACH_RAN_FINISHED) s->weights(sink, atoms);
     }
     return (now() - start) / (double)repeats;
 }
@@ -269,7 +266,8 @@ static void bench(const char *name, const whole *first)
     for (i = 0; i < SIDES; i++) t[i].repeats[0] = t[i].repeats[1] = 1;
     for (round = 0; round < ROUNDS; round++)
         for (i = 0; i < SIDES; i++) round_of(&sides[i], atoms, &t[i], round);
-    printf("%s %s %" PRIu64 " %" PRIu32, name, a.refusal != 0 ? "refused" : a.outcome == 1 ? "finished" : "full", a.updates, state.nodes);
+    printf("%s %s %" PRIu64 " %" PRIu32, name,
+           a.refusal != 0 ? "refused" : a.outcome == REACH_RAN_FINISHED ? "finished" : "full", a.updates, state.nodes);
     for (i = 0; i < SIDES; i++) printf(" %.0f %.0f", t[i].best[0], t[i].best[1]);
     if (SIDES == 3) printf(" %.0f\n", t[SIDES - 1].start);
     else printf(" - - -\n");

@@ -85,7 +85,7 @@ static uint32_t header_refused(const uint8_t *file, size_t length)
 
 static reach_counts plain_read(const uint8_t *file, size_t length)
 {
-    uint8_t layers[544];
+    uint8_t layers[REACH_PLACES];
     uint32_t number = header_refused(file, length), facts, derived, i;
     const uint8_t *bytes;
     reach_counts answer = {0, 0, 0, 0, 1};

@@ -8,14 +8,11 @@
 #include <stdio.h>
 #include <stdlib.h>
 
-#define PLACES 544
-#define NODES 4096
-
 static uint8_t file[65537];
-static uint32_t nodes[NODES];
-static uint16_t places[PLACES];
-static uint64_t numbers[NODES + 2];
-static uint8_t listing[6 + 6 * NODES];
+static uint32_t nodes[REACH_NODES];
+static uint16_t places[REACH_PLACES];
+static uint64_t numbers[REACH_NUMBERS];
+static uint8_t listing[6 + 6 * REACH_NODES];
 
 static int refused(uint32_t refusal, uint32_t detail) {
     printf("refused %" PRIu32 " %" PRIu32 "\n", refusal, detail);
@@ -24,7 +21,8 @@ static int refused(uint32_t refusal, uint32_t detail) {
 
 static int weights(size_t length, reach_state state, uint32_t atoms) {
     for (uint32_t atom = 0; atom < atoms; atom++) {
-        reach_weighed w = reach_weight(file, length, nodes, NODES, places, PLACES, state, atom, numbers, NODES + 2);
+        reach_weighed w = reach_weight(file, length, nodes, REACH_NODES, places, REACH_PLACES, state, atom,
+                                       numbers, REACH_NUMBERS);
         if (w.refusal) return refused(w.refusal, w.detail);
         printf("%" PRIu32 " %" PRIu64 "\n", atom, w.weight);
     }
@@ -32,15 +30,16 @@ static int weights(size_t length, reach_state state, uint32_t atoms) {
 }
 
 static int given(size_t length, reach_state state, uint32_t query, const uint16_t *evidence, size_t count) {
-    reach_shared s =
-        reach_given(file, length, nodes, NODES, places, PLACES, state, query, evidence, count, numbers, NODES + 2);
+    reach_shared s = reach_given(file, length, nodes, REACH_NODES, places, REACH_PLACES, state, query,
+                                 evidence, count, numbers, REACH_NUMBERS);
     if (s.refusal) return refused(s.refusal, s.detail);
     printf("given %" PRIu64 " of %" PRIu64 "\n", s.both, s.evidence);
     return 0;
 }
 
 static int list(size_t length, reach_state state, uint32_t atom) {
-    reach_listed l = reach_listing(file, length, nodes, NODES, places, PLACES, state, atom, listing, sizeof listing);
+    reach_listed l = reach_listing(file, length, nodes, REACH_NODES, places, REACH_PLACES, state, atom,
+                                   listing, sizeof listing);
     if (l.refusal) return refused(l.refusal, l.detail);
     printf("listing");
     for (uint64_t i = 0; i < l.length; i++) printf(" %02X", listing[i]);
@@ -59,11 +58,11 @@ int main(int argc, char **argv) {
 
     reach_counts counts = reach_read(file, length);
     if (counts.refusal) return refused(counts.refusal, counts.detail);
-    reach_step loaded = reach_load(file, length, nodes, NODES, places, PLACES);
+    reach_step loaded = reach_load(file, length, nodes, REACH_NODES, places, REACH_PLACES);
     if (loaded.refusal) return refused(loaded.refusal, loaded.detail);
-    reach_ran ran = reach_run(file, length, nodes, NODES, places, PLACES, loaded.state, 262656);
+    reach_ran ran = reach_run(file, length, nodes, REACH_NODES, places, REACH_PLACES, loaded.state, REACH_BUDGET);
     if (ran.refusal) return refused(ran.refusal, ran.detail);
-    if (ran.outcome == 3) {
+    if (ran.outcome == REACH_RAN_FULL) {
         printf("full %" PRIu64 "\n", ran.updates);
         return 1;
     }

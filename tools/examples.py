@@ -10,39 +10,29 @@
 import struct
 import sys
 
-
-def encode(facts, layers, rules):
-    """A literal is an atom, or its negative if negated (atom 0 is negated nowhere here)."""
-    offsets = (28, 28 + 4 * len(facts), 28 + 4 * len(facts) + len(layers))
-    out = struct.pack("<HH", 1, 3)
-    for kind, items in enumerate((facts, layers, rules)):
-        out += struct.pack("<HHI", kind + 1, len(items), offsets[kind])
-    out += b"".join(struct.pack("<HH", on, off) for on, off in facts) + bytes(layers)
-    for head, body in rules:
-        out += struct.pack("<HH", head, len(body)) + b"".join(struct.pack("<H", 2 * atom if atom >= 0 else -2 * atom + 1) for atom in body)
-    return out
+from reach_file import encode, no, yes
 
 
 def graph():
     edges = [(1, 0), (1, 2), (0, 2), (2, 0)]
     path = lambda x, y: 4 + 3 * x + y
-    rules = [(path(x, y), [e]) for e, (x, y) in enumerate(edges)]
-    rules += [(path(x, z), [e, path(y, z)]) for e, (x, y) in enumerate(edges) for z in range(3)]
+    rules = [(path(x, y), [yes(e)]) for e, (x, y) in enumerate(edges)]
+    rules += [(path(x, z), [yes(e), yes(path(y, z))]) for e, (x, y) in enumerate(edges) for z in range(3)]
     return encode([(1, 1)] * 4, [1] * 9, rules)
 
 
 def damaged():
     s = bytearray(open("examples/s.reach", "rb").read())
-    s[56:58] = struct.pack("<H", 2 * 6)
+    s[56:58] = struct.pack("<H", yes(6))
     return bytes(s)
 
 
 files = {
-    "p9": encode([(3, 7), (2, 8)], [1], [(2, [0]), (2, [1])]),
+    "p9": encode([(3, 7), (2, 8)], [1], [(2, [yes(0)]), (2, [yes(1)])]),
     "p11": graph(),
     "refused": damaged(),
-    "chain": encode([], [1] * 512, [(i, [i + 1]) for i in range(511)] + [(511, [-1]), (511, [0])]),
-    "full": encode([(1, 1)] * 24, [1, 2], [(24, [0])] + [(25, [i, i + 12]) for i in range(12)]),
+    "chain": encode([], [1] * 512, [(i, [yes(i + 1)]) for i in range(511)] + [(511, [no(1)]), (511, [yes(0)])]),
+    "full": encode([(1, 1)] * 24, [1, 2], [(24, [yes(0)])] + [(25, [yes(i), yes(i + 12)]) for i in range(12)]),
 }
 for name, data in files.items():
     open(f"{sys.argv[1]}/{name}.reach", "wb").write(data)

@@ -15,46 +15,33 @@
 //!
 //! write the input of the test programs `builds` and `runs` and what they must print, and test nothing.
 //!
-//!     target/tests/independent sessions
-//!     target/tests/independent --long SEED [SESSIONS]
-//!
-//! The first makes only the tests of whole sessions through the boundary, at scale 1. The second
-//! plays sessions through the boundary until stopped, or so many, and prints how far it is and all that differs.
-//!
+//!     target/tests/independent files [SCALE]
+//!     target/tests/independent sessions [SCALE]
 //!     target/tests/independent layers [SCALE]
+//!
+//! make a part of the tests: this program against itself and reach_check over the corpus, whole sessions through the
+//! boundary, request L4. The parts share nothing, so they may run side by side.
+//!
+//!     target/tests/independent --long SEED [SESSIONS]
 //!     target/tests/independent layers-judge FILE TEXT
 //!
-//! The first makes only the tests of request L4. The second ends with status 0 if TEXT holds what the program `layers`
-//! may print for the program file FILE, else it says why not and ends with 1.
+//! The first plays sessions through the boundary until stopped, or so many, and prints how far it is and all that
+//! differs. The second ends with status 0 if TEXT holds what the program `layers` may print for the program file FILE,
+//! else it says why not and ends with 1.
 
-mod boundary;
 mod builds;
-mod chance;
-mod compare;
-mod corpus;
-mod damage;
-mod encode;
-mod engine;
+mod calls;
 mod file;
-mod host;
-mod layers;
-mod legal;
-mod model;
-mod mutants;
-mod orders;
-mod paper;
-mod program;
-mod random;
-mod report;
-mod sessions;
-mod shapes;
-mod totals;
-mod worked;
+mod meaning;
+mod support;
 
-use compare::Met;
-use report::Report;
+use calls::{engine, layers, sessions};
+use file::compare::{self, Met};
+use file::corpus;
+use meaning::paper;
 use std::io::Write;
 use std::process::exit;
+use support::report::Report;
 
 fn main() {
     match std::env::args().nth(1).as_deref() {
@@ -63,11 +50,11 @@ fn main() {
         Some("runs-input") => print(&engine::input()),
         Some("runs-output") => print(engine::output().as_bytes()),
         Some("--long") => long(),
-        Some("sessions") => only_sessions(),
-        Some("layers") => only_layers(),
+        Some("files") => test(&[check_files], number(2, 1)),
+        Some("sessions") => test(&[sessions::check], number(2, 1)),
+        Some("layers") => test(&[layers::check], number(2, 1)),
         Some("layers-judge") => judge_layers(),
-        None => test(1),
-        Some(text) => test(scale(text)),
+        _ => test(&[check_files, sessions::check, layers::check], number(1, 1)),
     }
 }
 
@@ -79,9 +66,20 @@ fn print(bytes: &[u8]) {
     }
 }
 
-fn test(scale: u64) {
+/// A part of the tests, told to a report at a scale.
+type Part = fn(&mut Report, u64);
+
+fn test(parts: &[Part], scale: u64) {
     let mut report = Report::default();
-    check_self(&mut report);
+    for part in parts {
+        part(&mut report, scale);
+    }
+    exit(if report.finish() { 0 } else { 1 });
+}
+
+/// This program against itself, then reach_check over the corpus.
+fn check_files(report: &mut Report, scale: u64) {
+    check_self(report);
     let mut met = Met::new();
     report.add("library: NULL of length 0", compare::null());
     for group in corpus::groups(scale) {
@@ -89,10 +87,7 @@ fn test(scale: u64) {
         report.add(&name, met.group(group));
     }
     report.add("corpus: every refusal met", met.every_answer());
-    report_mutants(&mut report, met);
-    sessions::check(&mut report, scale);
-    layers::check(&mut report, scale);
-    exit(if report.finish() { 0 } else { 1 });
+    report_mutants(report, met);
 }
 
 fn scale(text: &str) -> u64 {
@@ -100,18 +95,6 @@ fn scale(text: &str) -> u64 {
         eprintln!("a whole number is needed, not {text}");
         exit(2);
     })
-}
-
-fn only_sessions() {
-    let mut report = Report::default();
-    sessions::check(&mut report, 1);
-    exit(if report.finish() { 0 } else { 1 });
-}
-
-fn only_layers() {
-    let mut report = Report::default();
-    layers::check(&mut report, number(2, 1));
-    exit(if report.finish() { 0 } else { 1 });
 }
 
 fn judge_layers() {

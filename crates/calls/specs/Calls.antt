@@ -1,34 +1,41 @@
--- What each call of include/reach.h answers, and what the lent buffers then hold, for all inputs (document 01, "Refusal numbers" and what
--- the calls do).
-use mathlib.Core.Path.{_≡_}
-use mathlib.Core.Bool.{Bool, true, false, cond, _&&_}
+-- What each call of include/reach.h answers, and what the lent memory then holds: for any file, any memory and any numbers, by the tables
+-- of refusals (Refusals.antt).
+use mathlib.Core.Bool.{cond}
 use mathlib.Core.List.{List, _++_, map}
-use Prim.Native.Nat.{ℕ, _+_, _/_}
-use lib.Dec.{eqb, ltb, leb}
+use Prim.Native.Nat.{ℕ, _+_}
+use lib.Dec.{eqb}
 use lib.ListN.{length, drop}
-use Rattle.meaning.specs.Lists.{all}
-use Rattle.meaning.specs.Meaning.{Program, atoms}
+use Rattle.meaning.specs.Lists.{zeroed}
+use Rattle.meaning.specs.Meaning.{weigh}
 use Rattle.format.specs.File.{literal, decode}
 use Rattle.format.specs.Refusals.{verdict, number, detail}
 use Rattle.format.specs.declared.Verdict.{Verdict}
 use Rattle.format.specs.declared.Verdict.the-variants.{Accepted, Refused}
-use Rattle.store.specs.Calls.{zeroed}
-use Rattle.update.specs.Update.{Store}
-use Rattle.rounds.specs.Layers.{finishedLayer}
-use Rattle.rounds.specs.Load.{Loaded, loaded, loadFull, load as loadOf}
-use Rattle.rounds.specs.Run.{How, Finished, Spent, Full, Ran, run as runOf}
-use Rattle.rounds.specs.Calls.{Answer, after, refused, updateCall, closeCall}
-use Rattle.building.specs.Calls.{storeIn}
-use Rattle.state.specs.Answers.{wordsOf}
-use Rattle.questions.specs.Questions.{weightSoFar, Given, share, noWeight, givenFull, given as givenOf, listed}
-use Rattle.fitting.specs.Fit.{roomIn, wordsIn, placesIn, fitTogether}
+use Rattle.diagram.specs.Diagram.{says}
+use Rattle.layering.specs.Told.{LayersIs}
+use Rattle.update.specs.Update.{Store, afterUpdate}
+use Rattle.rounds.specs.Layers.{firstLayer, nextLayer}
+use Rattle.rounds.specs.Load.{loadedStore}
+use Rattle.rounds.specs.Run.{How, Finished, Spent, Full, Ran as RunTo, run}
+use Rattle.state.specs.Hand.{Lent, Hand, lending, room, store, holding, zeros}
+use Rattle.questions.specs.Questions.{weightSoFar, asked, conjunction, listed}
+use Rattle.calls.specs.Refusals.{
+  answering,
+  loadTests,
+  later,
+  updateTests,
+  closeTests,
+  runTests,
+  weightTests,
+  givenTests,
+  listingTests,
+}
 use Rattle.calls.specs.declared.Counts.{Counts}
-use Rattle.calls.specs.declared.State.{State}
 use Rattle.calls.specs.declared.Step.{Step}
-use Rattle.calls.specs.declared.Ran as declared-ran
-use Rattle.calls.specs.declared.Weighed as declared-weighed
-use Rattle.calls.specs.declared.Shared as declared-shared
-use Rattle.calls.specs.declared.Listed as declared-listed
+use Rattle.calls.specs.declared.Ran.{Ran}
+use Rattle.calls.specs.declared.Weighed.{Weighed}
+use Rattle.calls.specs.declared.Shared.{Shared}
+use Rattle.calls.specs.declared.Listed.{Listed}
 
 -- ---- reading
 
@@ -43,75 +50,66 @@ readHost s = counts (verdict s)
 
 -- ---- loading, update, close
 
--- the lent store that the state speaks of
-abbrev pub lentStore : List ℕ → List ℕ → State → Store
-lentStore nodes places state = storeIn (wordsIn nodes) (placesIn places) (state .nodes)
-
-abbrev pub fits : List ℕ → List ℕ → List ℕ → State → Bool
-fits s nodes places state = fitTogether s nodes places (state .layer) (state .nodes)
-
--- an answer, and the words and places after the call
+-- an answer, and what is lent after the call
 pub record Stepped : Type 0 where
   pub answer : Step
-  pub nodes : List ℕ
-  pub places : List ℕ
+  pub lent : Lent
 
--- "entries beyond, like atom places beyond 544, keep their values"; a refusal "leaves all lent memory as it was"
-abbrev pub stepped : List ℕ → List ℕ → State → Answer → Stepped
-stepped nodes places state (after st k) = record {
+-- C's answer beside the lent arrays at exit
+abbrev pub stepped : Step → List ℕ → List ℕ → Stepped
+stepped r nodes places = record { answer = r; lent = lending nodes places }
+
+-- "Each returns its number and a detail .. and leaves all lent memory as it was"; the state comes back as it was too
+abbrev pub stepRefused : Hand → ℕ → ℕ → Stepped
+stepRefused h n d = record { answer = record { refusal = n; detail = d; state = h .state }; lent = h .lent }
+
+-- the lent memory holds this store, with this layer in work
+abbrev pub stepDone : Lent → Store → ℕ → Stepped
+stepDone l st k = record {
   answer = record { refusal = 0; detail = 0; state = record { layer = k; nodes = length (st .nodes) } };
-  nodes = wordsOf (roomIn nodes) st ++ drop 4096 nodes;
-  places = st .places ++ drop 544 places;
-}
-stepped nodes places state (refused n d) = record {
-  answer = record { refusal = n; detail = d; state = state };
-  nodes = nodes;
-  places = places;
+  lent = holding l st;
 }
 
--- "36; 12", after 1 to 11; a refused loading gives a state of zeros
-abbrev pub loading : Loaded → Answer
-loading (loaded st k) = after st k
-loading loadFull = refused 12 0
+-- reach_load: "Loading builds the F fact nodes"; a refused loading gives a state of zeros
+abbrev pub loadHost : List ℕ → Lent → Stepped
+loadHost s l =
+    answering (loadTests s l) (stepRefused (record { lent = l; state = zeros }))
+    (stepDone l (loadedStore (decode s)) (firstLayer (decode s)))
 
-abbrev pub loadAnswer : Verdict → List ℕ → List ℕ → List ℕ → Answer
-loadAnswer (Refused w) s nodes places = refused (number w) (detail w)
-loadAnswer (Accepted f d r t) s nodes places = elim (leb 544 (length places)) [
-  | false ↦ refused 36 0
-  | true ↦ loading (loadOf (decode s) (roomIn nodes))
-]
+-- reach_update: "The atom then gets that sum; no other atom changes."
+abbrev pub updateHost : List ℕ → Hand → ℕ → Stepped
+updateHost s h a =
+    answering (later s h (updateTests s h a)) (stepRefused h) (stepDone (h .lent) (afterUpdate (decode s) (store h) a) (h .state .layer))
 
-abbrev pub loadHost : List ℕ → List ℕ → List ℕ → Stepped
-loadHost s nodes places = stepped nodes places (record { layer = 0; nodes = 0 }) (loadAnswer (verdict s) s nodes places)
-
--- "Every later call: 36 first."
-abbrev pub updateHost : List ℕ → List ℕ → List ℕ → State → ℕ → Stepped
-updateHost s nodes places state atom = stepped nodes places state (elim (fits s nodes places state) [
-  | false ↦ refused 36 0
-  | true ↦ updateCall (decode s) (roomIn nodes) (state .layer) (lentStore nodes places state) atom
-])
-
-abbrev pub closeHost : List ℕ → List ℕ → List ℕ → State → Stepped
-closeHost s nodes places state = stepped nodes places state (elim (fits s nodes places state) [
-  | false ↦ refused 36 0
-  | true ↦ closeCall (decode s) (roomIn nodes) (state .layer) (lentStore nodes places state)
-])
+-- reach_close: "the next layer that has atoms is in work, or the run is finished"; nodes and places stay
+abbrev pub closeHost : List ℕ → Hand → Stepped
+closeHost s h = answering (later s h (closeTests s h)) (stepRefused h) (record {
+  answer = record {
+    refusal = 0;
+    detail = 0;
+    state = record { layer = nextLayer (decode s) (h .state .layer); nodes = h .state .nodes };
+  };
+  lent = h .lent;
+})
 
 -- ---- run
 
 pub record Ranned : Type 0 where
-  pub answer : declared-ran.Ran
-  pub nodes : List ℕ
-  pub places : List ℕ
+  pub answer : Ran
+  pub lent : Lent
 
--- "0 refused; 1 finished, 2 spent, 3 full"
+abbrev pub ran : Ran → List ℕ → List ℕ → Ranned
+ran r nodes places = record { answer = r; lent = lending nodes places }
+
+-- "0 refused; 1 finished, 2 spent, 3 full" (include/reach.h)
 abbrev pub outcome : How → ℕ
 outcome Finished = 1
 outcome Spent = 2
 outcome Full = 3
 
-abbrev pub ranned : List ℕ → List ℕ → Ran → Ranned
-ranned nodes places g = record {
+-- a run's state is that after exactly its updates
+abbrev pub runDone : Lent → RunTo → Ranned
+runDone l g = record {
   answer = record {
     refusal = 0;
     detail = 0;
@@ -119,125 +117,121 @@ ranned nodes places g = record {
     outcome = outcome (g .how);
     updates = g .updates;
   };
-  nodes = wordsOf (roomIn nodes) (g .store) ++ drop 4096 nodes;
-  places = g .store .places ++ drop 544 places;
+  lent = holding l (g .store);
 }
 
--- "Run: no other."
-abbrev pub runHost : List ℕ → List ℕ → List ℕ → State → ℕ → Ranned
-runHost s nodes places state budget = elim (fits s nodes places state) [
-  | false ↦ record {
-    answer = record { refusal = 36; detail = 0; state = state; outcome = 0; updates = 0 };
-    nodes = nodes;
-    places = places;
-  }
-  | true ↦ ranned nodes places (runOf (decode s) (roomIn nodes) budget (state .layer) (lentStore nodes places state))
-]
+-- reach_run
+abbrev pub runHost : List ℕ → Hand → ℕ → Ranned
+runHost s h budget =
+    answering (later s h (runTests s h))
+    (λ n d. record { answer = record { refusal = n; detail = d; state = h .state; outcome = 0; updates = 0 }; lent = h .lent })
+    (runDone (h .lent) (run (decode s) (room h) budget (h .state .layer) (store h)))
 
--- ---- questions: the first of the refusals in 01's order, or 0
-
--- "Weight so far: 13, 19."
-abbrev pub weightRefusal : List ℕ → List ℕ → List ℕ → State → ℕ → List ℕ → ℕ
-weightRefusal s nodes places state atom numbers =
-    cond (fits s nodes places state)
-    (cond (ltb atom (atoms (decode s))) (cond (leb (roomIn nodes + 2) (length numbers)) 0 19) 13) 36
+-- ---- questions
 
 pub record Weighing : Type 0 where
-  pub answer : declared-weighed.Weighed
+  pub answer : Weighed
+  pub lent : Lent
   pub numbers : List ℕ
+
+abbrev pub weighing : Weighed → List ℕ → List ℕ → List ℕ → Weighing
+weighing r nodes places numbers = record { answer = r; lent = lending nodes places; numbers = numbers }
 
 -- the working numbers "are 0 after an answer or refusal 20; numbers beyond keep their values"
-abbrev pub weightHost : List ℕ → List ℕ → List ℕ → State → ℕ → List ℕ → Weighing
-weightHost s nodes places state atom numbers = elim (eqb (weightRefusal s nodes places state atom numbers) 0) [
-  | true ↦ record {
-    answer = record { refusal = 0; detail = 0; weight = weightSoFar (decode s) (lentStore nodes places state) atom };
-    numbers = zeroed numbers 0 (roomIn nodes + 2);
-  }
-  | false ↦ record {
-    answer = record { refusal = weightRefusal s nodes places state atom numbers; detail = 0; weight = 0 };
-    numbers = numbers;
-  }
-]
+abbrev pub cleared : Hand → List ℕ → List ℕ
+cleared h numbers = zeroed numbers 0 (room h + 2)
 
--- "13 | no such atom": the query's, or that of an evidence literal
-abbrev pub knows : Program → ℕ → List ℕ → Bool
-knows P atom evidence = ltb atom (atoms P) && all (λ n. ltb (n / 2) (atoms P)) evidence
-
--- "Given evidence: 17, 18, 13, 19, 12, 20."
-abbrev pub givenRefusal : List ℕ → List ℕ → List ℕ → State → ℕ → List ℕ → List ℕ → ℕ
-givenRefusal s nodes places state atom evidence numbers =
-    cond (fits s nodes places state)
-    (cond (eqb (state .layer) finishedLayer)
-    (cond (leb (length evidence) 64)
-    (cond (knows (decode s) atom evidence)
-    (cond (leb (roomIn nodes + 2) (length numbers)) 0 19) 13) 18) 17) 36
+-- reach_weight: "Weight so far of any atom comes from its present diagram."
+abbrev pub weightHost : List ℕ → Hand → ℕ → List ℕ → Weighing
+weightHost s h a numbers =
+    answering (later s h (weightTests s h a numbers))
+    (λ n d. record { answer = record { refusal = n; detail = d; weight = 0 }; lent = h .lent; numbers = numbers })
+    (record {
+      answer = record { refusal = 0; detail = 0; weight = weightSoFar (decode s) (store h) a };
+      lent = h .lent;
+      numbers = cleared h numbers;
+    })
 
 pub record Sharing : Type 0 where
-  pub answer : declared-shared.Shared
+  pub answer : Shared
+  pub lent : Lent
   pub numbers : List ℕ
 
-abbrev pub sharing : List ℕ → List ℕ → Given → Sharing
-sharing nodes numbers (share b e) = record {
-  answer = record { refusal = 0; detail = 0; both = b; evidence = e };
-  numbers = zeroed numbers 0 (roomIn nodes + 2);
-}
-sharing nodes numbers noWeight = record {
-  answer = record { refusal = 20; detail = 0; both = 0; evidence = 0 };
-  numbers = zeroed numbers 0 (roomIn nodes + 2);
-}
-sharing nodes numbers givenFull = record {
-  answer = record { refusal = 12; detail = 0; both = 0; evidence = 0 };
-  numbers = numbers;
-}
+abbrev pub sharing : Shared → List ℕ → List ℕ → List ℕ → Sharing
+sharing r nodes places numbers = record { answer = r; lent = lending nodes places; numbers = numbers }
 
-abbrev pub givenHost : List ℕ → List ℕ → List ℕ → State → ℕ → List ℕ → List ℕ → Sharing
-givenHost s nodes places state atom evidence numbers = elim (eqb (givenRefusal s nodes places state atom evidence numbers) 0) [
-  | true ↦ sharing nodes numbers (givenOf (decode s) (roomIn nodes) (lentStore nodes places state) atom (map literal evidence))
-  | false ↦ record {
-    answer = record { refusal = givenRefusal s nodes places state atom evidence numbers; detail = 0; both = 0; evidence = 0 };
-    numbers = numbers;
-  }
-]
+-- the weights of the evidence's conjunction, and of that with the query
+abbrev pub evidenceWeight : List ℕ → Hand → List ℕ → ℕ
+evidenceWeight s h evidence = weigh (decode s .facts) (says (conjunction (store h) (map literal evidence)))
 
--- "Listing: 17, 13, 21." "21 | listing longer than the output"
-abbrev pub listingRefusal : List ℕ → List ℕ → List ℕ → State → ℕ → List ℕ → ℕ
-listingRefusal s nodes places state atom out =
-    cond (fits s nodes places state)
-    (cond (eqb (state .layer) finishedLayer)
-    (cond (ltb atom (atoms (decode s)))
-    (cond (leb (length (listed (decode s) (lentStore nodes places state) atom)) (length out)) 0 21) 13) 17) 36
+abbrev pub bothWeight : List ℕ → Hand → ℕ → List ℕ → ℕ
+bothWeight s h a evidence = weigh (decode s .facts) (says (conjunction (store h) (asked (map literal evidence) a)))
+
+-- reach_given, which "takes those nodes back"; 20 "leaves the working numbers 0"
+abbrev pub givenHost : List ℕ → Hand → ℕ → List ℕ → List ℕ → Sharing
+givenHost s h a evidence numbers =
+    answering (later s h (givenTests s h a evidence numbers (evidenceWeight s h evidence)))
+    (λ n d. record {
+      answer = record { refusal = n; detail = d; both = 0; evidence = 0 };
+      lent = h .lent;
+      numbers = cond (eqb n 20) (cleared h numbers) numbers;
+    })
+    (record {
+      answer = record { refusal = 0; detail = 0; both = bothWeight s h a evidence; evidence = evidenceWeight s h evidence };
+      lent = h .lent;
+      numbers = cleared h numbers;
+    })
 
 pub record Listing : Type 0 where
-  pub answer : declared-listed.Listed
+  pub answer : Listed
+  pub lent : Lent
   pub out : List ℕ
 
--- "Bytes beyond are kept."
-abbrev pub listingHost : List ℕ → List ℕ → List ℕ → State → ℕ → List ℕ → Listing
-listingHost s nodes places state atom out =
-    let bytes : List ℕ = listed (decode s) (lentStore nodes places state) atom in
-    elim (eqb (listingRefusal s nodes places state atom out) 0) [
-      | true ↦ record { answer = record { refusal = 0; detail = 0; length = length bytes }; out = bytes ++ drop (length bytes) out }
-      | false ↦ record {
-        answer = record { refusal = listingRefusal s nodes places state atom out; detail = 0; length = 0 };
-        out = out;
-      }
-    ]
+abbrev pub listing : Listed → List ℕ → List ℕ → List ℕ → Listing
+listing r nodes places out = record { answer = r; lent = lending nodes places; out = out }
+
+-- reach_listing: the bytes of the present diagram; "Bytes beyond are kept."
+abbrev pub listingHost : List ℕ → Hand → ℕ → List ℕ → Listing
+listingHost s h a out =
+    let bytes : List ℕ = listed (decode s) (store h) a in
+    answering (later s h (listingTests s h a out bytes))
+    (λ n d. record { answer = record { refusal = n; detail = d; length = 0 }; lent = h .lent; out = out })
+    (record {
+      answer = record { refusal = 0; detail = 0; length = length bytes };
+      lent = h .lent;
+      out = bytes ++ drop (length bytes) out;
+    })
+
+-- ---- layers (document 02, L4)
+
+pub record Layering : Type 0 where
+  pub answer : Listed
+  pub out : List ℕ
+
+abbrev pub layering : Listed → List ℕ → Layering
+layering r out = record { answer = r; out = out }
+
+-- what reach_layers may answer: all but the chain is fixed, of which "any such chain will do" (crate layering)
+abbrev pub LayersAnswer : List ℕ → List ℕ → Layering → Type 0
+LayersAnswer s out u =
+    LayersIs s out (u .out) (record { refusal = u .answer .refusal; detail = u .answer .detail; length = u .answer .length })
 
 -- ---- all calls
 
 pub record Calls : Type 0 where
   pub read : List ℕ → Counts
-  pub load : List ℕ → List ℕ → List ℕ → Stepped
-  pub update : List ℕ → List ℕ → List ℕ → State → ℕ → Stepped
-  pub close : List ℕ → List ℕ → List ℕ → State → Stepped
-  pub run : List ℕ → List ℕ → List ℕ → State → ℕ → Ranned
-  pub weight : List ℕ → List ℕ → List ℕ → State → ℕ → List ℕ → Weighing
-  pub given : List ℕ → List ℕ → List ℕ → State → ℕ → List ℕ → List ℕ → Sharing
-  pub listing : List ℕ → List ℕ → List ℕ → State → ℕ → List ℕ → Listing
+  pub load : List ℕ → Lent → Stepped
+  pub update : List ℕ → Hand → ℕ → Stepped
+  pub close : List ℕ → Hand → Stepped
+  pub run : List ℕ → Hand → ℕ → Ranned
+  pub weight : List ℕ → Hand → ℕ → List ℕ → Weighing
+  pub given : List ℕ → Hand → ℕ → List ℕ → List ℕ → Sharing
+  pub listing : List ℕ → Hand → ℕ → List ℕ → Listing
+  pub layers : List ℕ → List ℕ → Layering
 
--- what the exported functions do
-abbrev pub ours : Calls
-ours = record {
+-- what the exported functions do, whatever chain reach_layers writes: `layers` is what it does
+abbrev pub ours : (List ℕ → List ℕ → Layering) → Calls
+ours layers = record {
   read = readHost;
   load = loadHost;
   update = updateHost;
@@ -246,30 +240,5 @@ ours = record {
   weight = weightHost;
   given = givenHost;
   listing = listingHost;
+  layers = layers;
 }
-
--- ---- an answer with its buffers
-
-pub record StepIs (u : Stepped) (nodes₁ places₁ : List ℕ) (r : Step) : Type 0 where
-  pub answers : r ≡ u .answer
-  pub words : nodes₁ ≡ u .nodes
-  pub places-are : places₁ ≡ u .places
-
-pub record RanIs (u : Ranned) (nodes₁ places₁ : List ℕ) (r : declared-ran.Ran) : Type 0 where
-  pub answers : r ≡ u .answer
-  pub words : nodes₁ ≡ u .nodes
-  pub places-are : places₁ ≡ u .places
-
-pub record WeightIs (u : Weighing) (numbers₁ : List ℕ) (r : declared-weighed.Weighed) : Type 0 where
-  pub answers : r ≡ u .answer
-  pub numbers-are : numbers₁ ≡ u .numbers
-
--- "takes those nodes back": the words are as they were
-pub record ShareIs (u : Sharing) (nodes nodes₁ numbers₁ : List ℕ) (r : declared-shared.Shared) : Type 0 where
-  pub answers : r ≡ u .answer
-  pub words : nodes₁ ≡ nodes
-  pub numbers-are : numbers₁ ≡ u .numbers
-
-pub record ListIs (u : Listing) (out₁ : List ℕ) (r : declared-listed.Listed) : Type 0 where
-  pub answers : r ≡ u .answer
-  pub bytes : out₁ ≡ u .out

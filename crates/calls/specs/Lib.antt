@@ -1,3 +1,4 @@
+pub mod Refusals
 pub mod Calls
-pub mod Inner
+pub mod Outcomes
 pub mod Laws

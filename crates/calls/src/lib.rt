@@ -1,15 +1,10 @@
 // What the calls of include/reach.h answer, in C's numbers and structs (specs/Calls.antt), and the functions that do their work over the
-// parts of the lent memory that are used (specs/Inner.antt).
+// parts of the lent memory that are used.
 
 pub mod questioning;
 pub mod stepping;
 
-// reach_state
-#[repr(C)]
-pub struct State {
-    pub layer: u32,
-    pub nodes: u32,
-}
+use state::State;
 
 // reach_counts
 #[repr(C)]

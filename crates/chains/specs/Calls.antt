@@ -1,15 +1,14 @@
 -- What the search for a chain is asked and what it answers, and the places that it reaches.
 use mathlib.Core.Path.{_≡_}
 use mathlib.Core.Bool.{true, false, cond}
-use mathlib.Core.List.{List, [], _∷_, _++_, map, flatten, List·Memᴰ}
+use mathlib.Core.List.{List, [], _∷_, _++_, List·Memᴰ}
 use Prim.Native.Nat.{ℕ, zero, suc, _+_, _*_, _-_, _/_, _%_, _≤_, _<_}
 use lib.Dec.{eqb}
-use lib.ListN.{length, getD, drop}
+use lib.ListN.{length, getD}
 use Rattle.meaning.specs.Meaning.{Literal}
-use Rattle.format.specs.Encode.{two}
 use Rattle.format.specs.File.{F, D, R, decode}
-use Rattle.format.specs.Laws.Accepted.{Formed}
-use Rattle.chains.specs.Layering.{Chain, OnChain, ruleOf}
+use Rattle.format.specs.Passed.{Formed}
+use Rattle.chains.specs.Layering.{ruleOf}
 use Rattle.chains.specs.Laws.Cut.{SomeChain}
 
 -- a file that has passed its check but for 11, and its counts
@@ -55,17 +54,3 @@ pub record Trail (s : List ℕ) (x : ℕ) (queue from by entry : List ℕ) (coun
 unfoldable pub wayTo : ℕ → List ℕ → List ℕ → ℕ → List ℕ
 wayTo zero from by k = []
 wayTo (suc most) from by k = elim (eqb k 0) [ true ↦ [] | false ↦ wayTo most from by (getD from k 0) ++ (getD by k 0 ∷ []) ]
-
--- ---- what is answered
-
--- "a count, then at most 1,023 rule numbers, 2 bytes each, the first rule's head the atom named, each body holding the next head, plain or
--- negated, the last the first"; "detail the lowest atom on any such chain"
-pub record ChainDone (s out out₁ : List ℕ) (a n : ℕ) : Type 0 where
-  pub first : ℕ
-  pub others : List ℕ
-  pub chain : Chain (decode s) (first ∷ others)
-  pub head : ruleOf (decode s) first .head ≡ a
-  pub lowest : (b : ℕ) → OnChain (decode s) b → a ≤ b
-  pub count : n ≡ length (first ∷ others)
-  pub few : n ≤ 1023
-  pub bytes : out₁ ≡ two n ++ (flatten (map two (first ∷ others)) ++ drop (2 + 2 * n) out)

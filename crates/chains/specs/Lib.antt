@@ -1,4 +1,5 @@
 pub mod Layering
+pub mod Written
 pub mod Calls
 pub mod Searching
 pub mod Laws

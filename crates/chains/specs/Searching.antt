@@ -8,7 +8,7 @@ use Rattle.meaning.specs.Meaning.{Literal}
 use Rattle.format.specs.Bytes.{u16}
 use Rattle.format.specs.Encode.{two}
 use Rattle.format.specs.File.{F, D, R, startOf, literal, decode}
-use Rattle.format.specs.Laws.Accepted.{Formed}
+use Rattle.format.specs.Passed.{Formed}
 use Rattle.index.specs.Index.{Index}
 use Rattle.chains.specs.Layering.{OnChain, ruleOf}
 use Rattle.chains.specs.Calls.{Trail, wayTo}

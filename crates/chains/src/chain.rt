@@ -4,10 +4,11 @@ use crate::search;
 use crate::search::wide;
 ghost use mathlib.Core.Path.{_≡_};
 ghost use mathlib.Core.List.{_++_};
-ghost use Prim.Native.Nat.{_+_, _≤_};
+ghost use Prim.Native.Nat.{_+_};
 ghost use lib.ListN.{take, drop};
 ghost use Rattle.format.specs.Encode.{two};
-ghost use Rattle.chains.specs.Calls.{FindAsked, ChainDone};
+ghost use Rattle.chains.specs.Calls.{FindAsked};
+ghost use Rattle.chains.specs.Written.{ChainDone};
 ghost use Rattle.chains.specs.Searching.{PutAsked, Falls, Counted, RulesAsked, RulesDone};
 
 // Writes two bytes, the low one first.

@@ -1,4 +1,5 @@
+pub mod Reached
 pub mod Demands
-pub mod Hand
 pub mod StandIns
 pub mod Laws
+pub mod Theorem

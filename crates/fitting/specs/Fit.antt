@@ -2,40 +2,22 @@
 -- places are as loaded, every node obeys the rules above with its sides numbered below it, unused entries and places are 0, the other
 -- places name nodes in use, and the layer in work has atoms or the run is finished." As a test that computes; Laws/Fit says that it is
 -- this.
-use mathlib.Core.Bool.{Bool, true, false, not, _&&_, _||_}
+use mathlib.Core.Bool.{Bool, not, _&&_, _||_}
 use mathlib.Core.List.{List}
-use Prim.Native.Nat.{ℕ, _+_, min}
+use Prim.Native.Nat.{ℕ, _+_}
 use lib.Dec.{eqb, ltb, leb}
 use lib.ListN.{length, getD, take, drop}
 use Rattle.meaning.specs.Lists.{any, all, upto}
 use Rattle.meaning.specs.Meaning.{Program, atoms}
 use Rattle.format.specs.File.{decode}
-use Rattle.format.specs.Refusals.{verdict}
-use Rattle.format.specs.declared.Verdict.{Verdict}
-use Rattle.format.specs.declared.Verdict.the-variants.{Accepted, Refused}
+use Rattle.format.specs.Refusals.{verdict, passes}
 use Rattle.diagram.specs.Listing.{Node, sameNode}
 use Rattle.store.specs.Store.{nodesIn, nowhere, factAt}
 use Rattle.rounds.specs.Layers.{finishedLayer, hasAtoms}
 use Rattle.rounds.specs.Load.{factNode}
-
--- ---- "a longer lent store is used only that far; entries beyond, like atom places beyond 544, keep their values"
-
--- N
-abbrev pub roomIn : List ℕ → ℕ
-roomIn nodes = min (length nodes) 4096
-
-abbrev pub wordsIn : List ℕ → List ℕ
-wordsIn nodes = take 4096 nodes
-
-abbrev pub placesIn : List ℕ → List ℕ
-placesIn places = take 544 places
+use Rattle.state.specs.Hand.{Hand, wordsIn, placesIn}
 
 -- ---- the parts of the test
-
--- "the file passes 1 to 11"
-abbrev pub passes : Verdict → Bool
-passes (Accepted f d r t) = true
-passes (Refused w) = false
 
 -- every number below n passes
 abbrev below : ℕ → (ℕ → Bool) → Bool
@@ -59,8 +41,8 @@ obeys F ns i =
     not (any (λ j. sameNode (getD ns j nowhere) (getD ns i nowhere)) (upto i (λ j. j)))
 
 -- "the other places name nodes in use"
-abbrev pub inUse : ℕ → List ℕ → Bool
-inUse count places = all (λ p. ltb p (count + 2)) places
+abbrev pub namesInUse : ℕ → List ℕ → Bool
+namesInUse count places = all (λ p. ltb p (count + 2)) places
 
 -- ---- the test
 
@@ -71,10 +53,11 @@ storeFits P nodes places layer count =
     asLoaded (length (P .facts)) (nodesIn nodes count) places &&
     below count (obeys (length (P .facts)) (nodesIn nodes count)) &&
     all (eqb 0) (drop count nodes) && all (eqb 0) (drop (atoms P) places) &&
-    inUse count (take (atoms P) places) &&
+    namesInUse count (take (atoms P) places) &&
     (eqb layer finishedLayer || hasAtoms P layer)
 
-unfoldable pub fitTogether : List ℕ → List ℕ → List ℕ → ℕ → ℕ → Bool
+unfoldable pub fitTogether : List ℕ → Hand → Bool
 unfolding verdict storeFits
-fitTogether s nodes places layer count =
-    passes (verdict s) && leb 544 (length places) && storeFits (decode s) (wordsIn nodes) (placesIn places) layer count
+fitTogether s h =
+    passes (verdict s) && leb 544 (length (h .lent .places)) &&
+    storeFits (decode s) (wordsIn (h .lent .nodes)) (placesIn (h .lent .places)) (h .state .layer) (h .state .nodes)

@@ -4,7 +4,7 @@ use mathlib.Core.List.{List}
 use Prim.Native.Nat.{ℕ, _≤_}
 use lib.ListN.{length}
 use Rattle.format.specs.File.{F, D}
-use Rattle.format.specs.Laws.Accepted.{Passed}
+use Rattle.format.specs.Passed.{Passed}
 
 -- a passed file, its counts, and the used parts of the lent memory
 pub record FitAsked (s nodes places : List ℕ) (facts derived : ℕ) : Type 0 where

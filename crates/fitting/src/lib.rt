@@ -10,7 +10,8 @@ ghost use Rattle.format.specs.File.{decode};
 ghost use Rattle.store.specs.Store.{nodesIn};
 ghost use Rattle.rounds.specs.Layers.{finishedLayer, hasAtoms};
 ghost use Rattle.state.specs.Inner.{Sized};
-ghost use Rattle.fitting.specs.Fit.{asLoaded, inUse, storeFits, fitTogether};
+ghost use Rattle.state.specs.Hand.{handing};
+ghost use Rattle.fitting.specs.Fit.{asLoaded, namesInUse, storeFits, fitTogether};
 ghost use Rattle.fitting.specs.Inner.{FitAsked};
 
 // N: the lent words as far as they are used.
@@ -75,7 +76,7 @@ fn unused_places(places: &[u16], from: usize) -> bool
 // Whether the first `to` places name nodes in use.
 fn used_places(places: &[u16], to: usize, count: u32) -> bool
     requires { ⌜ (to ≤ length (now places)) × (count ≤ 4096) ⌝ }
-    ensures { λ r. ⌜ r ≡ inUse count (take to (now (places .entry))) ⌝ }
+    ensures { λ r. ⌜ r ≡ namesInUse count (take to (now (places .entry))) ⌝ }
 {
     let mut a = 0;
     while a < to {
@@ -144,7 +145,8 @@ fn fits_in(
 
 // Whether a file, a store and a state fit together.
 pub fn fits(file: &[u8], nodes: &[u32], places: &[u16], layer: u32, count: u32) -> bool
-    ensures { λ r. ⌜ r ≡ fitTogether (now (file .entry)) (now (nodes .entry)) (now (places .entry)) layer count ⌝ }
+    ensures { λ r. ⌜ r ≡ fitTogether (now (file .entry))
+        (handing (now (nodes .entry)) (now (places .entry)) (record { layer = layer; nodes = count })) ⌝ }
 {
     match format::validate::check(file) {
         Verdict::Accepted {

@@ -1,3 +1,4 @@
+pub mod Numbers
 pub mod First
 pub mod Compared
 pub mod Decoded

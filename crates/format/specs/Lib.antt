@@ -5,4 +5,5 @@ pub mod Checked
 pub mod Walk
 pub mod Legal
 pub mod Encode
+pub mod Passed
 pub mod Laws

@@ -1,5 +1,5 @@
 -- When a file is refused, with what number and detail (document 01, "Refusal numbers", 1 to 11), in the order "Loading: ..".
-use mathlib.Core.Bool.{Bool, true, not, _&&_, cond}
+use mathlib.Core.Bool.{Bool, true, false, not, _&&_, cond}
 use mathlib.Core.List.{List, [], _∷_, _++_, flatten}
 use Prim.Native.Nat.{ℕ, _+_}
 use lib.Dec.{eqb, ltb, leb}
@@ -163,3 +163,8 @@ verdictBy layered s = first (fileTests layered s) (Accepted (F s) (D s) (R s) (t
 unfoldable pub verdict : List ℕ → Verdict
 unfolding verdictBy
 verdict s = verdictBy true s
+
+-- "the file passes 1 to 11"
+abbrev pub passes : Verdict → Bool
+passes (Accepted f d r t) = true
+passes (Refused w) = false

@@ -1,7 +1,6 @@
 // Little-endian numbers in a byte slice.
 ghost use Prim.Native.Nat.{_+_, _<_, _≤_};
-ghost use lib.ListN.{length, getD};
-ghost use mathlib.Core.Path.{_≡_};
+ghost use lib.ListN.{length};
 ghost use Rattle.format.specs.Bytes.{Read8, Read16, Read32};
 
 // The byte at `at`.

@@ -8,10 +8,8 @@ ghost use mathlib.Core.Path.{_≡_};
 ghost use Prim.Native.Nat.{_+_, _*_, _<_, _≤_};
 ghost use lib.ListN.{length};
 ghost use Rattle.format.specs.File.{F, D, R};
-ghost use Rattle.format.specs.Refusals.{verdict, verdictBy};
-ghost use Rattle.format.specs.Refusals.{contentsTests, countsTests, offsetTests, factTest, layerTest, rulesTests, each};
-ghost use Rattle.format.specs.Checked.{Answers, Framed, Weighted, Counted, Totalled};
-ghost use Rattle.format.specs.Checked.{LayerOf, HeaderAsked, HeaderRead, LiteralAsked, LiteralRead};
+ghost use Rattle.format.specs.Refusals.{verdict, verdictBy, contentsTests, countsTests, offsetTests, factTest, layerTest, rulesTests, each};
+ghost use Rattle.format.specs.Checked.{Answers, Framed, Weighted, Counted, Totalled, LayerOf, HeaderAsked, HeaderRead, LiteralAsked, LiteralRead};
 
 // What some of the tests find.
 enum Found {

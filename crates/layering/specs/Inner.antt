@@ -8,7 +8,7 @@ use Rattle.meaning.specs.Lists.{upto}
 use Rattle.meaning.specs.Meaning.{Literal}
 use Rattle.format.specs.Bytes.{u16}
 use Rattle.format.specs.File.{F, D, R, literal, decode}
-use Rattle.format.specs.Laws.Accepted.{Formed}
+use Rattle.format.specs.Passed.{Formed}
 use Rattle.layering.specs.Rising.{pass}
 
 -- the len literals from `at` on

@@ -12,3 +12,4 @@ pub mod Models
 pub mod Written
 pub mod Telling
 pub mod Told
+pub mod Fixed

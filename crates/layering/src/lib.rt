@@ -5,10 +5,9 @@ use format::Verdict;
 use format::bytes::u16_at;
 ghost use Prim.Native.Nat.{_≤_};
 ghost use lib.ListN.{length};
-ghost use Rattle.format.specs.Laws.Accepted.{Formed};
+ghost use Rattle.format.specs.Passed.{Formed};
 ghost use mathlib.Core.Path.{_≡_};
-ghost use Rattle.layering.specs.Calls.{Done};
-ghost use Rattle.layering.specs.Told.{LayersIs};
+ghost use Rattle.layering.specs.Told.{Done, LayersIs};
 
 // The layers were written; or the lowest atom whose layer is over 255; or the lowest atom on a chain, and the number of rules of a chain
 // through it, which was written.

@@ -3,7 +3,8 @@
 use crate::Found;
 use format::bytes::u16_at;
 ghost use mathlib.Core.Path.{_≡_};
-ghost use Rattle.layering.specs.Calls.{SettleAsked, Settled, WriteAsked, Done};
+ghost use Rattle.layering.specs.Calls.{SettleAsked, Settled, WriteAsked};
+ghost use Rattle.layering.specs.Told.{Done};
 ghost use Rattle.layering.specs.Inner.{bodyAt, BodyAsked, PassAsked, PassDone};
 ghost use Rattle.layering.specs.Rising.{asks};
 

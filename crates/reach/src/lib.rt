@@ -1,26 +1,42 @@
 // The calls of include/reach.h: what C may call, for any file, any memory and any numbers.
 //
 // Each call tests what 01 says it tests, in 01's order, hands the parts of the lent memory that are used to the crate that does the work,
-// and gives its answer in C's numbers (calls/specs/Calls.antt, specs/Layers.antt).
+// and gives its answer in C's numbers (calls/specs/Calls.antt).
 
 use calls::Counts;
 use calls::Listed;
 use calls::Ran;
 use calls::Shared;
-use calls::State;
 use calls::Step;
 use calls::Weighed;
 use calls::questioning;
 use calls::stepping;
 use format::Verdict;
+use state::State;
 ghost use mathlib.Core.Path.{_≡_};
-ghost use Rattle.calls.specs.Calls.{ours, StepIs, RanIs, WeightIs, ShareIs, ListIs};
-ghost use Rattle.reach.specs.Layers.{LayersAnswer};
+ghost use Rattle.state.specs.Hand.{lending, handing};
+ghost use Rattle.calls.specs.Calls.{
+  readHost,
+  stepped,
+  loadHost,
+  updateHost,
+  closeHost,
+  ran,
+  runHost,
+  weighing,
+  weightHost,
+  sharing,
+  givenHost,
+  listing,
+  listingHost,
+  layering,
+  LayersAnswer,
+};
 
 // Reads a file's counts and total.
 #[no_mangle]
 pub extern "C" fn reach_read(file: &[u8]) -> Counts
-    ensures { λ r. ⌜ r ≡ ours .read (now (file .entry)) ⌝ }
+    ensures { λ r. ⌜ r ≡ readHost (now (file .entry)) ⌝ }
 {
     match format::validate::check(file) {
         Verdict::Accepted {
@@ -48,8 +64,8 @@ pub extern "C" fn reach_read(file: &[u8]) -> Counts
 // Loads a file into the lent memory.
 #[no_mangle]
 pub extern "C" fn reach_load(file: &[u8], nodes: &mut [u32], places: &mut [u16]) -> Step
-    ensures { λ r. ⌜ StepIs (ours .load (now (file .entry)) (now (nodes .entry)) (now (places .entry)))
-        (now (nodes .exit)) (now (places .exit)) r ⌝ }
+    ensures { λ r. ⌜ stepped r (now (nodes .exit)) (now (places .exit)) ≡
+        loadHost (now (file .entry)) (lending (now (nodes .entry)) (now (places .entry))) ⌝ }
 {
     match format::validate::check(file) {
         Verdict::Accepted {
@@ -80,8 +96,8 @@ pub extern "C" fn reach_update(
     state: State,
     atom: u32,
 ) -> Step
-    ensures { λ r. ⌜ StepIs (ours .update (now (file .entry)) (now (nodes .entry)) (now (places .entry)) state atom)
-        (now (nodes .exit)) (now (places .exit)) r ⌝ }
+    ensures { λ r. ⌜ stepped r (now (nodes .exit)) (now (places .exit)) ≡
+        updateHost (now (file .entry)) (handing (now (nodes .entry)) (now (places .entry)) state) atom ⌝ }
 {
     if !fitting::fits(file, nodes, places, state.layer, state.nodes) {
         return stepping::refused(36, 0, state);
@@ -98,8 +114,8 @@ pub extern "C" fn reach_close(
     places: &mut [u16],
     state: State,
 ) -> Step
-    ensures { λ r. ⌜ StepIs (ours .close (now (file .entry)) (now (nodes .entry)) (now (places .entry)) state)
-        (now (nodes .exit)) (now (places .exit)) r ⌝ }
+    ensures { λ r. ⌜ stepped r (now (nodes .exit)) (now (places .exit)) ≡
+        closeHost (now (file .entry)) (handing (now (nodes .entry)) (now (places .entry)) state) ⌝ }
 {
     if !fitting::fits(file, nodes, places, state.layer, state.nodes) {
         return stepping::refused(36, 0, state);
@@ -117,8 +133,8 @@ pub extern "C" fn reach_run(
     state: State,
     budget: u64,
 ) -> Ran
-    ensures { λ r. ⌜ RanIs (ours .run (now (file .entry)) (now (nodes .entry)) (now (places .entry)) state budget)
-        (now (nodes .exit)) (now (places .exit)) r ⌝ }
+    ensures { λ r. ⌜ ran r (now (nodes .exit)) (now (places .exit)) ≡
+        runHost (now (file .entry)) (handing (now (nodes .entry)) (now (places .entry)) state) budget ⌝ }
 {
     if !fitting::fits(file, nodes, places, state.layer, state.nodes) {
         return Ran {
@@ -143,8 +159,8 @@ pub extern "C" fn reach_weight(
     atom: u32,
     numbers: &mut [u64],
 ) -> Weighed
-    ensures { λ r. ⌜ WeightIs (ours .weight (now (file .entry)) (now (nodes .entry)) (now (places .entry)) state atom
-        (now (numbers .entry))) (now (numbers .exit)) r ⌝ }
+    ensures { λ r. ⌜ weighing r (now (nodes .exit)) (now (places .exit)) (now (numbers .exit)) ≡
+        weightHost (now (file .entry)) (handing (now (nodes .entry)) (now (places .entry)) state) atom (now (numbers .entry)) ⌝ }
 {
     if !fitting::fits(file, nodes, places, state.layer, state.nodes) {
         return questioning::no_weight(36);
@@ -164,8 +180,9 @@ pub extern "C" fn reach_given(
     evidence: &[u16],
     numbers: &mut [u64],
 ) -> Shared
-    ensures { λ r. ⌜ ShareIs (ours .given (now (file .entry)) (now (nodes .entry)) (now (places .entry)) state atom (now (evidence .entry))
-        (now (numbers .entry))) (now (nodes .entry)) (now (nodes .exit)) (now (numbers .exit)) r ⌝ }
+    ensures { λ r. ⌜ sharing r (now (nodes .exit)) (now (places .exit)) (now (numbers .exit)) ≡
+        givenHost (now (file .entry)) (handing (now (nodes .entry)) (now (places .entry)) state) atom (now (evidence .entry))
+        (now (numbers .entry)) ⌝ }
 {
     if !fitting::fits(file, nodes, places, state.layer, state.nodes) {
         return questioning::no_share(36);
@@ -192,8 +209,8 @@ pub extern "C" fn reach_listing(
     atom: u32,
     out: &mut [u8],
 ) -> Listed
-    ensures { λ r. ⌜ ListIs (ours .listing (now (file .entry)) (now (nodes .entry)) (now (places .entry)) state atom
-        (now (out .entry))) (now (out .exit)) r ⌝ }
+    ensures { λ r. ⌜ listing r (now (nodes .exit)) (now (places .exit)) (now (out .exit)) ≡
+        listingHost (now (file .entry)) (handing (now (nodes .entry)) (now (places .entry)) state) atom (now (out .entry)) ⌝ }
 {
     if !fitting::fits(file, nodes, places, state.layer, state.nodes) {
         return questioning::no_listing(36);
@@ -202,10 +219,10 @@ pub extern "C" fn reach_listing(
     questioning::listing(file, &nodes[..room], &places[..544], state, atom, out)
 }
 
-// The smallest layers that the rules allow, or a chain of rules that leaves none (specs/Layers.antt).
+// The smallest layers that the rules allow, or a chain of rules that leaves none.
 #[no_mangle]
 pub extern "C" fn reach_layers(file: &[u8], out: &mut [u8]) -> Listed
-    ensures { λ r. ⌜ LayersAnswer (now (file .entry)) (now (out .entry)) (now (out .exit)) r ⌝ }
+    ensures { λ r. ⌜ LayersAnswer (now (file .entry)) (now (out .entry)) (layering r (now (out .exit))) ⌝ }
 {
     let told = layering::tell(file, out);
     Listed {

@@ -20,8 +20,7 @@ use prog.Wp.{Heap, Env, Calls, Loops}
 use ghost.Atoms.{Atoms, sem}
 use contract.BorrowLft.{_⊑_, meet-⊑-left, meet-⊑-right}
 use contract.Monad.{Fun, fact}
-use types.Kit.{Given, Item, Post, Go, Sq, runs, lands, ‵, raw, _⊛_, some, later, _$_, _∵_, !, qed, move, keep, use1, use2, use3, split}
-use types.Kit.{join, rewrite, pick, apply, fsplit, fjoin, fpick, fpack, frame, await, updating, now as at-once, show, done}
+use types.Kit.{Given, Item, Post, Go, Sq, runs, lands, ‵, raw, _⊛_, some, later, _$_, _∵_, !, qed, move, keep, use1, use2, use3, split, join, rewrite, pick, apply, fsplit, fjoin, fpick, fpack, frame, await, updating, now as at-once, show, done}
 use types.Run.{Opds}
 use types.SemTy.{Body}
 use types.Tokens.{lft-new, lft-end}

@@ -1,41 +1,18 @@
--- What the functions that write ask, and what they leave in the output.
+-- What the functions that write ask.
 use mathlib.Core.Path.{_≡_}
-use mathlib.Core.List.{List, _++_}
+use mathlib.Core.List.{List}
 use Prim.Native.Nat.{ℕ, _+_, _≤_, _<_}
-use lib.ListN.{length, getD, take, drop}
-use Rattle.io.specs.Counts.{Counts}
+use lib.ListN.{length, getD}
 use Rattle.meaning.specs.Meaning.{total}
 use Rattle.format.specs.File.{F, D, decode}
-use Rattle.format.specs.Laws.Accepted.{Passed}
+use Rattle.format.specs.Passed.{Passed}
 use Rattle.rounds.specs.Laws.Reached.{Standing}
-use Rattle.building.specs.Calls.{storeIn, Lent}
+use Rattle.building.specs.Calls.{Lent}
+use Rattle.update.specs.Words.{storeIn}
 use Rattle.state.specs.Answers.{Fits}
 use Rattle.state.specs.declared.State.{State}
 use Rattle.questions.specs.Weights.{FillAsked, nodeWeight}
 use Rattle.store.specs.Store.{nodesIn}
-use Rattle.report.specs.Report.{decimal, said}
-
--- ---- what is left
-
--- the text stands in the output from `at` to r, and the rest is as it was
-pub record Wrote (out out₁ : List ℕ) (at r : ℕ) (text : List ℕ) : Type 0 where
-  pub bytes : out₁ ≡ take at out ++ text ++ drop r out
-  pub end : r ≡ at + length text
-  pub inside : r ≤ length out
-
--- a word and a number behind it, which ends at most 20 digits behind the word
-pub record Named (out out₁ : List ℕ) (at r : ℕ) (word : List ℕ) (n : ℕ) : Type 0 where
-  pub wrote : Wrote out out₁ at r (word ++ decimal n)
-  pub near : r ≤ at + length word + 20
-
--- the file's text stands at the output's start, the rest is as it was, and r is the text's length; `counts` follows, and a caller that
--- lends the first r bytes asks for it
-pub record Reported (s out out₁ : List ℕ) (r : ℕ) : Type 0 where
-  pub bytes : out₁ ≡ said s ++ drop (length (said s)) out
-  pub count : r ≡ length (said s)
-  pub counts : Counts r out₁
-
--- ---- what is asked
 
 -- room for every text (Laws/Short, `said-length`)
 abbrev pub Room : List ℕ → Type 0

@@ -1,11 +1,11 @@
 // The text that the reading program prints for a file: any bytes at all (specs/Report.antt).
 mod answer;
-mod text;
+mod lines;
 
 use format::Verdict;
 ghost use Prim.Native.Nat.{_≤_};
 ghost use lib.ListN.{length};
-ghost use Rattle.report.specs.Asked.{Reported};
+ghost use Rattle.report.specs.Report.{Reported};
 
 // Writes the file's text at the output's start and answers its length.
 pub fn report(file: &[u8], out: &mut [u8]) -> usize

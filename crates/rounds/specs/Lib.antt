@@ -3,7 +3,6 @@ pub mod Load
 pub mod Close
 pub mod Run
 pub mod Budget
-pub mod Calls
 pub mod Fit
 pub mod Stages
 pub mod Reached

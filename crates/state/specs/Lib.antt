@@ -1,3 +1,4 @@
+pub mod Hand
 pub mod Inner
 pub mod Answers
 pub mod Laws

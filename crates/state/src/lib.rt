@@ -3,7 +3,8 @@
 pub mod layers;
 pub mod loading;
 
-// The layer in work, or 65,535 where the run is finished, and the nodes in use.
+// reach_state: the layer in work, or 65,535 where the run is finished, and the nodes in use.
+#[repr(C)]
 pub struct State {
     pub layer: u32,
     pub nodes: u32,

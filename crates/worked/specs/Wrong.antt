@@ -7,7 +7,6 @@ use Rattle.diagram.specs.Diagram.{eval, says, combine, negate}
 use Rattle.store.specs.Store.{treeOf}
 use Rattle.update.specs.Update.{Store, diagramAt, afterUpdate}
 use Rattle.rounds.specs.Load.{loadedStore}
-use Rattle.rounds.specs.Calls.{refused, updateCall}
 use Rattle.worked.specs.Files.{fileS}
 
 abbrev S : Program
@@ -17,12 +16,7 @@ S = decode fileS
 abbrev early : Store
 early = afterUpdate S (loadedStore S) 2
 
--- an update of atom 5 is then refused,
-pub too-early : updateCall S 4096 1 early 5 ≡ refused 14 0
-unfolding updateCall decode u16
-too-early = refl
-
--- since its weight would show 5,
+-- an update of atom 5 is then refused (demands/specs/Laws/FileS, `too-early`), since its weight would show 5,
 pub would-show : weigh (S .facts) (says (diagramAt (afterUpdate S early 5) 5)) ≡ 5
 unfolding decode u16 loadedStore afterUpdate treeOf combine negate eval weigh
 would-show = refl

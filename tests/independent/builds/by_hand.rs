@@ -8,7 +8,7 @@ use super::play::{play, text};
 use super::script::{encode, Script, Step, AND, FACT, LARGEST, NOT, OR};
 use super::scripts::{both_sides_new, every_function, file_s};
 use super::table::Table;
-use crate::paper::{same, Checked};
+use crate::support::checked::{same, Checked};
 
 /// P7: built alone in an empty store, the numbers are those of the listing.
 pub fn listing() -> Checked {

@@ -3,7 +3,7 @@
 use super::mutant::Mutant;
 use super::play::play;
 use super::script::{Script, Step, Writer, AND, FACT, LARGEST, NOT, OR};
-use crate::random::Random;
+use crate::support::random::Random;
 
 /// Valid instructions over the first `facts` facts; none without facts, since nothing can be built first.
 fn steps(facts: u16, count: usize, random: &mut Random) -> Vec<Step> {

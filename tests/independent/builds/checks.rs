@@ -8,9 +8,9 @@ use super::script::{encode, Script, Step, AND, FACT, LARGEST, NOT, OR};
 use super::scripts::{scripts, sum_of_parities, two_parities};
 use super::table::{self, Table};
 use super::{by_hand, diagram};
-use crate::paper::{same, Checked};
-use crate::random::Random;
-use crate::report::Report;
+use crate::support::checked::{same, Checked};
+use crate::support::random::Random;
+use crate::support::report::Report;
 use std::collections::BTreeSet;
 
 type Case = (Script, Played);

@@ -1,7 +1,7 @@
 //! Numbered nodes looked at as a diagram, without the functions they were numbered from.
 
 use super::numbering::Node;
-use crate::paper::same;
+use crate::support::checked::same;
 use std::collections::BTreeSet;
 
 /// Whether the choice leads from this number to always.

@@ -1,6 +1,6 @@
 //! Scripts of builds: values, bytes, and a writer for them. A script may be wrong: bad instructions are values too.
 
-use crate::encode::push2;
+use crate::support::encode::push2;
 
 pub const FACT: u8 = 0;
 pub const AND: u8 = 1;

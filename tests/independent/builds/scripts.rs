@@ -4,7 +4,7 @@ use super::chance::{self, bad_steps, needed, reordered};
 use super::mutant::Mutant;
 use super::play::{play, RESULTS};
 use super::script::{Script, Step, Writer, FACT, LARGEST, NOT};
-use crate::random::Random;
+use crate::support::random::Random;
 
 pub fn scripts() -> Vec<Script> {
     let groups = [

@@ -8,7 +8,7 @@ use native.Mathlib.Omega.{arith}
 use native.Mathlib.Decide.{decLt, ℕ-discrete}
 use lib.ListN.{getD}
 use Rattle.format.specs.File.{F, D, R, decode}
-use Rattle.format.specs.Laws.Accepted.{Formed}
+use Rattle.format.specs.Passed.{Formed}
 use Rattle.format.specs.Laws.Decoded.{decode-rules}
 use Rattle.chains.specs.Layering.{ruleOf, Link, Links, Chain, OnChain}
 use Rattle.chains.specs.Searching.{leads, SearchAsked, SearchDone, LowestAsked, LowestDone, Room}

@@ -11,7 +11,8 @@ use Rattle.format.specs.File.{F, R, decode}
 use Rattle.format.specs.Laws.Decoded.{decode-rules}
 use Rattle.index.specs.Index.{Index}
 use Rattle.chains.specs.Layering.{ruleOf, Link, Links, Chain}
-use Rattle.chains.specs.Calls.{Step, Trail, wayTo, FindAsked, ChainDone}
+use Rattle.chains.specs.Calls.{Step, Trail, wayTo, FindAsked}
+use Rattle.chains.specs.Written.{ChainDone}
 use Rattle.chains.specs.Searching.{Room, Falls, RulesAsked, RulesDone, LowestAsked, LowestDone}
 use Rattle.chains.specs.Laws.Around.{links-both, flag-both}
 use Rattle.chains.specs.Laws.Places.{trail-few}

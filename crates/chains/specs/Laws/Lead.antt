@@ -11,7 +11,7 @@ use Rattle.meaning.specs.Laws.Tests.{getD-upto}
 use Rattle.meaning.specs.Meaning.{Literal}
 use Rattle.format.specs.Bytes.{u16}
 use Rattle.format.specs.File.{F, D, R, startOf, literal, literalAt, ruleAt, decode}
-use Rattle.format.specs.Laws.Accepted.{Formed}
+use Rattle.format.specs.Passed.{Formed}
 use Rattle.index.specs.Index.{headAt}
 use Rattle.chains.specs.Layering.{ruleOf}
 use Rattle.chains.specs.Calls.{Step}

@@ -5,33 +5,33 @@ use mathlib.Core.Bool.{true}
 use mathlib.Core.List.{List}
 use Prim.Native.Nat.{ℕ, _≤_}
 use native.Mathlib.Omega.{arith}
-use borrow.Author.Tests.{not-false}
 use Rattle.meaning.specs.Meaning.{Layered, atoms}
 use Rattle.format.specs.Bytes.{Bytes}
 use Rattle.format.specs.File.{decode}
-use Rattle.format.specs.Laws.Accepted.{Passed}
+use Rattle.format.specs.Passed.{Passed}
 use Rattle.format.specs.Laws.Decoded.{decode-atoms}
 use Rattle.rounds.specs.Layers.{finishedLayer}
 use Rattle.rounds.specs.Reached as stores
+use Rattle.state.specs.Hand.{Hand, store}
 use Rattle.state.specs.Laws.Fits.{passed-layered}
-use Rattle.calls.specs.Calls.{ours, fits}
+use Rattle.fitting.specs.Fit.{fitTogether}
 use Rattle.fitting.specs.Laws.Fit.{fits-inner}
-use Rattle.demands.specs.Hand.{Hand, store, Reached}
+use Rattle.calls.specs.Calls.{Layering, ours}
+use Rattle.demands.specs.Reached.{Reached}
 use Rattle.demands.specs.Laws.Reached.{Stood, reached-stood}
 
 pub record Ground (s : List ℕ) (h : Hand) : Type 0 where
-  pub fit : fits s (h .nodes) (h .places) (h .state) ≡ true
+  pub fit : fitTogether s h ≡ true
   pub layered : Layered (decode s)
   pub few : atoms (decode s) ≤ 544
   pub reached : stores.Reached (decode s) (h .state .layer) (store h)
 
-pub ground : {s : List ℕ} → Bytes s → {h : Hand} → Reached ours s h → Ground s h
-ground {s} bytes {h} r =
+pub ground : {layers : List ℕ → List ℕ → Layering} {s : List ℕ} → Bytes s → {h : Hand} → Reached (ours layers) s h → Ground s h
+ground {s = s} bytes {h} r =
     let g : Stood s h = reached-stood bytes r in
-    let fit : fits s (h .nodes) (h .places) (h .state) ≡ true = not-false _ (g .fits-together) in
-    let p : Passed s = fits-inner s (h .nodes) (h .places) (h .state .layer) (h .state .nodes) fit .passed in
+    let p : Passed s = fits-inner s h (g .fits-together) .passed in
     record {
-      fit = fit;
+      fit = g .fits-together;
       layered = passed-layered p bytes;
       few = omega (arith, decode-atoms s, p .facts, p .derived);
       reached = g .reached;

@@ -15,8 +15,7 @@ use Rattle.format.specs.Laws.Reading.{Stands, stands-whole, stands-left, stands
 use Rattle.diagram.specs.Diagram.{Diagram, eval, says, Good}
 use Rattle.diagram.specs.Listing.{Node, Numbered, number, nodeBytes, listing, follow, reads}
 use Rattle.diagram.specs.Laws.Canon.{canonical}
-use Rattle.diagram.specs.Laws.Number.{At, here, after, at-inside, Each, each-none, Has, never, always, inner, has-inside, number-has}
-use Rattle.diagram.specs.Laws.Number.{Below, number-below, FactBelow, number-facts}
+use Rattle.diagram.specs.Laws.Number.{At, here, after, at-inside, Each, each-none, Has, never, always, inner, has-inside, number-has, Below, number-below, FactBelow, number-facts}
 
 -- ---- reading
 

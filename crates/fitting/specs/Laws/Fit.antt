@@ -8,23 +8,28 @@ use Prim.Native.Nat.{ℕ, _+_, _-_, _≤_, _<_}
 use native.Mathlib.Omega.{arith}
 use lib.Dec.{T, eqb, leb, leb→le, le→leb, eqb→eq}
 use lib.ListN.{length, getD, take, drop, replicate, length-take, length-drop, length-replicate, getD-replicate}
-use lib.Seq.{length-take-le, getD-take, getD-drop, ext-getD}
+use lib.Seq.{length-take-le, take-all, getD-take, getD-drop, ext-getD}
+use borrow.Author.Tests.{le-leb}
 use Rattle.meaning.specs.Lists.{all, upto}
 use Rattle.meaning.specs.Meaning.{Program, atoms}
 use Rattle.meaning.specs.Laws.Tests.{T-or-left, T-or-right, T-or-cases, T-true, eqb-of, getD-upto, length-upto}
 use Rattle.format.specs.File.{decode}
-use Rattle.format.specs.Refusals.{verdict}
+use Rattle.format.specs.Refusals.{verdict, passes}
 use Rattle.format.specs.declared.Verdict.{Verdict}
 use Rattle.format.specs.declared.Verdict.the-variants.{Accepted, Refused}
-use Rattle.format.specs.Laws.Accepted.{Passed, passed}
+use Rattle.format.specs.Laws.Accepted.{passed}
+use Rattle.format.specs.Passed.{Passed}
+use Rattle.format.specs.Laws.Passing.{passed-accepted}
 use Rattle.store.specs.Store.{nodesIn, nowhere, Sound}
 use Rattle.store.specs.Laws.Nodes.{nodesIn-length}
 use Rattle.rounds.specs.Layers.{finishedLayer, hasAtoms}
 use Rattle.rounds.specs.Load.{factNode}
 use Rattle.rounds.specs.Fit.{Fit}
-use Rattle.building.specs.Calls.{storeIn}
+use Rattle.update.specs.Words.{storeIn}
 use Rattle.state.specs.Answers.{Fits}
-use Rattle.fitting.specs.Fit.{wordsIn, placesIn, passes, asLoaded, obeys, inUse, storeFits, fitTogether}
+use Rattle.fitting.specs.Fit.{asLoaded, obeys, namesInUse, storeFits, fitTogether}
+use Rattle.state.specs.Hand.{Hand, handing, wordsIn, placesIn}
+use Rattle.state.specs.declared.State.{State}
 use Rattle.fitting.specs.Laws.FitParts.{
   Loaded,
   zeros-all,
@@ -53,7 +58,7 @@ pub record Parts (P : Program) (nodes places : List ℕ) (layer count : ℕ) : T
   pub sound : Sound (length (P .facts)) (nodesIn nodes count)
   pub unused-nodes : T (all (eqb 0) (drop count nodes))
   pub unused-places : T (all (eqb 0) (drop (atoms P) places))
-  pub used-places : T (inUse count (take (atoms P) places))
+  pub used-places : T (namesInUse count (take (atoms P) places))
   pub in-work : T (eqb layer finishedLayer || hasAtoms P layer)
 
 module _ (P : Program) (nodes places : List ℕ) (layer count : ℕ) where
@@ -66,7 +71,7 @@ module _ (P : Program) (nodes places : List ℕ) (layer count : ℕ) where
   abbrev tests : List Bool
   tests =
       leb count (length nodes) ∷ asLoaded F (nodesIn nodes count) places ∷ rules ∷ all (eqb 0) (drop count nodes) ∷
-      all (eqb 0) (drop (atoms P) places) ∷ inUse count (take (atoms P) places) ∷ (eqb layer finishedLayer || hasAtoms P layer) ∷ []
+      all (eqb 0) (drop (atoms P) places) ∷ namesInUse count (take (atoms P) places) ∷ (eqb layer finishedLayer || hasAtoms P layer) ∷ []
 
   -- the test passes where its parts do,
   pub parts-all : Parts P nodes places layer count → T (storeFits P nodes places layer count)
@@ -189,32 +194,49 @@ passes-passed : (s : List ℕ) (v : Verdict) → verdict s ≡ v → T (passes v
 passes-passed s (Accepted f d r t) e h = passed s e
 passes-passed s (Refused w) e h = absurd h
 
-record Whole (s nodes places : List ℕ) (layer count : ℕ) : Type 0 where
+record Whole (s : List ℕ) (h : Hand) : Type 0 where
   file : Passed s
-  long : 544 ≤ length places
-  store : storeFits (decode s) (wordsIn nodes) (placesIn places) layer count ≡ true
+  long : 544 ≤ length (h .lent .places)
+  store : storeFits (decode s) (wordsIn (h .lent .nodes)) (placesIn (h .lent .places)) (h .state .layer) (h .state .nodes) ≡ true
 
-whole : (s nodes places : List ℕ) (layer count : ℕ) → fitTogether s nodes places layer count ≡ true → Whole s nodes places layer count
+whole : (s : List ℕ) (h : Hand) → fitTogether s h ≡ true → Whole s h
 unfolding fitTogether
-whole s nodes places layer count e =
-    let st : Bool = storeFits (decode s) (wordsIn nodes) (placesIn places) layer count in
-    let (a, (b, (c, _))) = row-each (passes (verdict s)) (leb 544 (length places) ∷ st ∷ []) (rw e tt) in
+whole s h e =
+    let st : Bool = storeFits (decode s) (wordsIn (h .lent .nodes)) (placesIn (h .lent .places)) (h .state .layer) (h .state .nodes) in
+    let (a, (b, (c, _))) = row-each (passes (verdict s)) (leb 544 (length (h .lent .places)) ∷ st ∷ []) (rw e tt) in
     record { file = passes-passed s (verdict s) refl a; long = leb→le _ _ b; store = T-true st c }
 
--- a file, words, places and state that pass the test fit together, as the engine asks it,
-pub fits-inner : (s nodes places : List ℕ) (layer count : ℕ) → fitTogether s nodes places layer count ≡ true →
-    Fits s (wordsIn nodes) (placesIn places) (record { layer = layer; nodes = count })
-fits-inner s nodes places layer count e =
-    let w : Whole s nodes places layer count = whole s nodes places layer count e in
-    let f = store-fits (decode s) (wordsIn nodes) (placesIn places) layer count (length-take-le 544 places (w .long)) (w .store) in
+-- a file and what is in hand that pass the test fit together, as the engine asks it,
+pub fits-inner : (s : List ℕ) (h : Hand) → fitTogether s h ≡ true →
+    Fits s (wordsIn (h .lent .nodes)) (placesIn (h .lent .places)) (h .state)
+fits-inner s h e =
+    let w : Whole s h = whole s h e in
+    let f =
+    store-fits (decode s) (wordsIn (h .lent .nodes)) (placesIn (h .lent .places)) (h .state .layer) (h .state .nodes)
+    (length-take-le 544 (h .lent .places) (w .long)) (w .store) in
     record {
       passed = w .file;
-      room = omega (arith, length-take 4096 nodes);
+      room = omega (arith, length-take 4096 (h .lent .nodes));
       used = f .used;
       unused = f .unused;
       fit = f .fit;
     }
 
 -- and there are 544 places
-pub fits-long : (s nodes places : List ℕ) (layer count : ℕ) → fitTogether s nodes places layer count ≡ true → 544 ≤ length places
-fits-long s nodes places layer count e = whole s nodes places layer count e .long
+pub fits-long : (s : List ℕ) (h : Hand) → fitTogether s h ≡ true → 544 ≤ length (h .lent .places)
+fits-long s h e = whole s h e .long
+
+-- and what fits passes: memory of which all is used is its own used part
+pub inner-fits : {s nodes places : List ℕ} {state : State} → Fits s nodes places state → fitTogether s (handing nodes places state) ≡ true
+unfolding fitTogether
+inner-fits {s} {nodes} {places} {state} f =
+    let long : length places ≡ 544 = f .fit .long in
+    let fits : storeFits (decode s) nodes places (state .layer) (state .nodes) ≡ true =
+    fits-store (decode s) nodes places (state .layer) (state .nodes) long (record { used = f .used; unused = f .unused; fit = f .fit }) in
+    rw (
+      passed-accepted (f .passed),
+      le-leb 544 (length places) (omega arith),
+      take-all 4096 nodes (f .room),
+      take-all 544 places (omega arith),
+      fits,
+    ) refl

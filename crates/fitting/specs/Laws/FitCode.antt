@@ -27,7 +27,8 @@ use Rattle.rounds.specs.Layers.{finishedLayer, hasAtoms}
 use Rattle.rounds.specs.Load.{factNode}
 use Rattle.state.specs.Inner.{Sized}
 use Rattle.state.specs.Laws.Layers.{listed}
-use Rattle.fitting.specs.Fit.{asLoaded, inUse, storeFits, fitTogether}
+use Rattle.state.specs.Hand.{Hand, handing}
+use Rattle.fitting.specs.Fit.{asLoaded, namesInUse, storeFits, fitTogether}
 use Rattle.fitting.specs.Inner.{FitAsked}
 use Rattle.fitting.specs.Laws.FitParts.{any-at, any-place, zeros-all, zeros-each, used-all, used-each, loaded-all, loaded-each}
 use Rattle.fitting.specs.Laws.Fit.{Parts, parts-all, parts-each, fits-long}
@@ -54,11 +55,11 @@ module _ (l : List ℕ) (from : ℕ) where
 
 module _ (count : ℕ) (l : List ℕ) (to : ℕ) where
   -- every place before `to` names a node in use,
-  pub used-yes : ((i : ℕ) → i < to → getD l i 0 < count + 2) → true ≡ inUse count (take to l)
+  pub used-yes : ((i : ℕ) → i < to → getD l i 0 < count + 2) → true ≡ namesInUse count (take to l)
   used-yes h = yes-is (used-all count l to h)
 
   -- or one does not
-  pub used-no : (i : ℕ) → i < to → count + 2 ≤ getD l i 0 → false ≡ inUse count (take to l)
+  pub used-no : (i : ℕ) → i < to → count + 2 ≤ getD l i 0 → false ≡ namesInUse count (take to l)
   used-no i lt le = no-is (λ t. omega (arith, used-each count l to t i lt))
 
 -- ---- facts as loaded
@@ -159,7 +160,7 @@ module _ {s nodes places : List ℕ} {facts derived : ℕ} (q : FitAsked s nodes
     no-places e = refuted (λ p. failed e (rw atoms-of at (p .unused-places)))
 
     -- places that name no node in use,
-    pub no-used : r ≡ inUse count (take (facts + derived) places) → false ≡ fit
+    pub no-used : r ≡ namesInUse count (take (facts + derived) places) → false ≡ fit
     no-used e = refuted (λ p. failed e (rw atoms-of at (p .used-places)))
 
     -- or a layer without atoms;
@@ -175,7 +176,7 @@ module _ {s nodes places : List ℕ} {facts derived : ℕ} (q : FitAsked s nodes
       not a ≡ false → a ≡ asLoaded facts (nodesIn nodes count) places →
       not b ≡ false → b ≡ all (eqb 0) (drop count nodes) →
       not c ≡ false → c ≡ all (eqb 0) (drop (facts + derived) places) →
-      not d ≡ false → d ≡ inUse count (take (facts + derived) places) →
+      not d ≡ false → d ≡ namesInUse count (take (facts + derived) places) →
       not e ≡ false → e ≡ (eqb layer finishedLayer || hasAtoms (decode s) layer) →
       (r : Bool) → Tells r (Sound facts (nodesIn nodes count)) → r ≡ fit
   by-rules h k a₀ a₁ b₀ b₁ c₀ c₁ d₀ d₁ e₀ e₁ = go
@@ -195,27 +196,30 @@ module _ {s nodes places : List ℕ} {facts derived : ℕ} (q : FitAsked s nodes
 
 -- ---- the whole test
 
--- the words in use
-words-are : (nodes : List ℕ) {n : ℕ} → n ≡ min (length nodes) 4096 → take n nodes ≡ take 4096 nodes
+-- the words in use: as many as there are, at most 4096
+pub words-are : (nodes : List ℕ) {n : ℕ} → n ≡ min (length nodes) 4096 → take n nodes ≡ take 4096 nodes
 words-are nodes {n} m = elim (decLt (length nodes) 4096) [
   | yes lt ↦ take-all n nodes (omega arith) ∙ sym (take-all 4096 nodes (omega arith))
   | no g ↦ let e : n ≡ 4096 = omega arith in rw e refl
 ]
 
 module _ (s nodes places : List ℕ) (layer count : ℕ) where
+  abbrev hand : Hand
+  hand = handing nodes places (record { layer = layer; nodes = count })
+
   -- a refused file does not fit,
-  pub no-file : {v : Verdict} {w : Refusal} → v ≡ verdict s → v ≡ Refused w → false ≡ fitTogether s nodes places layer count
+  pub no-file : {v : Verdict} {w : Refusal} → v ≡ verdict s → v ≡ Refused w → false ≡ fitTogether s hand
   unfolding fitTogether
   no-file e q = rw (sym e ∙ q) refl
 
   -- too few places do not,
-  pub no-long : length places < 544 → false ≡ fitTogether s nodes places layer count
-  no-long h = no-is (λ t. omega (arith, fits-long s nodes places layer count (T-true _ t)))
+  pub no-long : length places < 544 → false ≡ fitTogether s hand
+  no-long h = no-is (λ t. omega (arith, fits-long s hand (T-true _ t)))
 
   -- and else the store tells
   pub by-store :
       {v : Verdict} {f d r t n : ℕ} {b : Bool} → v ≡ verdict s → v ≡ Accepted f d r t → 544 ≤ length places → n ≡ min (length nodes) 4096 →
-      b ≡ storeFits (decode s) (take n nodes) (take 544 places) layer count → b ≡ fitTogether s nodes places layer count
+      b ≡ storeFits (decode s) (take n nodes) (take 544 places) layer count → b ≡ fitTogether s hand
   unfolding fitTogether
   by-store e q long m h =
       h ∙ rw (sym e ∙ q, le-leb 544 (length places) long, words-are nodes m) refl

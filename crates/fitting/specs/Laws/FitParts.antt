@@ -31,7 +31,7 @@ use Rattle.diagram.specs.Listing.{Node, sameNode}
 use Rattle.store.specs.Store.{nowhere, factAt, Sound}
 use Rattle.store.specs.Laws.Nodes.{sameNode-refl, sameNode-true}
 use Rattle.rounds.specs.Load.{factNode}
-use Rattle.fitting.specs.Fit.{asLoaded, obeys, inUse}
+use Rattle.fitting.specs.Fit.{asLoaded, obeys, namesInUse}
 
 -- ---- every place
 
@@ -101,13 +101,13 @@ module _ (l : List ℕ) (from : ℕ) where
 
 module _ (count : ℕ) (l : List ℕ) (to : ℕ) where
   -- the places before `to` pass where each is below count + 2,
-  pub used-all : ((i : ℕ) → i < to → getD l i 0 < count + 2) → T (inUse count (take to l))
+  pub used-all : ((i : ℕ) → i < to → getD l i 0 < count + 2) → T (namesInUse count (take to l))
   used-all h = all-at (λ p. ltb p (count + 2)) 0 (take to l) (λ i lt.
       let near : i < to = omega (arith, length-take to l) in
       rw (getD-take to l i 0 near) (lt→ltb (getD l i 0) (count + 2) (h i near)))
 
   -- and then each is, past the end too
-  pub used-each : T (inUse count (take to l)) → (i : ℕ) → i < to → getD l i 0 < count + 2
+  pub used-each : T (namesInUse count (take to l)) → (i : ℕ) → i < to → getD l i 0 < count + 2
   used-each t i near = elim (decLt i (length l)) [
     | yes lt ↦
         let q : T (ltb (getD (take to l) i 0) (count + 2)) =

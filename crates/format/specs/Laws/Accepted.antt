@@ -1,7 +1,7 @@
 -- What an accepted file grants: what every test of the check asks for, and so that the program it holds is legal.
 -- An accepted file has no fault, so each of its tests fails to fail; read as orders of numbers, these are the fields of `PassedBy`.
 use mathlib.Core.Path.{_≡_, refl, sym, _∙_}
-use mathlib.Core.Bool.{Bool, true, false, not, _&&_}
+use mathlib.Core.Bool.{Bool, true, false, not}
 use mathlib.Core.List.{List, [], _∷_, List·Memᴰ}
 use Prim.Native.Nat.{ℕ, zero, suc, _+_, _≤_, _<_}
 use native.Mathlib.Omega.{arith}
@@ -10,28 +10,11 @@ use lib.ListN.{length, getD, List·getD-eq-default}
 use borrow.Author.Tests.{ltb-true, ltb-false, leb-false, eqb-true, eqb-false, not-false}
 use Rattle.meaning.specs.Laws.Tests.{length-upto, getD-upto, mem-of-upto}
 use Rattle.meaning.specs.Meaning.{Fact, Literal, Rule, Program, Layered, Known, layerOf, total}
-use Rattle.format.specs.Bytes.{Bytes, byte, u16, u32}
+use Rattle.format.specs.Bytes.{Bytes, byte, u16}
 use Rattle.format.specs.File.{F, D, R, factAt, layersAt, rulesAt, startOf, literalAt, ruleAt, decode}
-use Rattle.format.specs.Refusals.{
-  Test,
-  largest,
-  lengthTests,
-  contentsTests,
-  countsTests,
-  offsetTests,
-  factTest,
-  totalTests,
-  layerTest,
-  breaks,
-  literalTests,
-  headTests,
-  each,
-  ruleTests,
-  fileTests,
-  verdict,
-  verdictBy,
-}
+use Rattle.format.specs.Refusals.{Test, lengthTests, contentsTests, countsTests, offsetTests, factTest, totalTests, layerTest, breaks, literalTests, headTests, each, ruleTests, fileTests, verdict, verdictBy}
 use Rattle.format.specs.Checked.{Answers}
+use Rattle.format.specs.Passed.{RightContents, PassedRule, PassedBy, Passed, Formed}
 use Rattle.format.specs.Legal.{Legal}
 use Rattle.format.specs.Laws.Decoded.{decode-facts, decode-layers, decode-rules}
 use Rattle.format.specs.Laws.FactsRead.{some-weight}
@@ -39,54 +22,6 @@ use Rattle.format.specs.Laws.First.{accepted, head-passes, append-passes
 use Rattle.format.specs.declared.Verdict.{Verdict}
 use Rattle.format.specs.declared.Verdict.the-variants.{Accepted}
 use Rattle.format.specs.declared.validate.Found.the-variants.{Nothing}
-
--- ---- what the tests grant
-
--- the contents have the layout, the kinds and the offsets of the table
-pub record RightContents (s : List ℕ) : Type 0 where
-  pub layout : u16 s 0 ≡ 1
-  pub entries : u16 s 2 ≡ 3
-  pub kind-1 : u16 s 4 ≡ 1
-  pub kind-2 : u16 s 12 ≡ 2
-  pub kind-3 : u16 s 20 ≡ 3
-  pub offset-1 : u32 s 8 ≡ 28
-  pub offset-2 : u32 s 16 ≡ layersAt s
-  pub offset-3 : u32 s 24 ≡ rulesAt s
-
--- rule j has passed 8 to 10: it lies within the file, its head is a derived atom, its literals' atoms are known
-pub record PassedRule (s : List ℕ) (j : ℕ) : Type 0 where
-  pub header : startOf s j + 4 ≤ length s
-  pub body : u16 s (startOf s j + 2) ≤ 16
-  pub inside : startOf s (suc j) ≤ length s
-  pub derived : F s ≤ u16 s (startOf s j)
-  pub below : u16 s (startOf s j) < F s + D s
-  pub known : (i : ℕ) → i < u16 s (startOf s j + 2) → literalAt s (startOf s j) i .atom < F s + D s
-
--- the file has passed every test but 11, and where layered 11 too
-pub record PassedBy (layered : Bool) (s : List ℕ) : Type 0 where
-  pub long : 28 ≤ length s
-  pub short : length s ≤ 65536
-  pub contents : RightContents s
-  pub facts : F s ≤ 32
-  pub derived : D s ≤ 512
-  pub rules : R s ≤ 2048
-  pub fits : rulesAt s ≤ length s
-  pub weights : (i : ℕ) → i < F s → 0 < factAt s i .on + factAt s i .off
-  pub whole : total (decode s .facts) ≤ largest
-  pub layers : (i : ℕ) → i < D s → 0 < byte s (layersAt s + i)
-  pub rule : (j : ℕ) → j < R s → PassedRule s j
-  pub ends : startOf s (R s) ≡ length s
-  pub keeps :
-      (j : ℕ) → j < R s → (i : ℕ) → i < u16 s (startOf s j + 2) →
-      (layered && breaks (decode s) (u16 s (startOf s j)) (literalAt s (startOf s j) i)) ≡ false
-
--- the file has passed every test,
-abbrev pub Passed : List ℕ → Type 0
-Passed s = PassedBy true s
-
--- or every test but 11: its literals may break the given layers
-abbrev pub Formed : List ℕ → Type 0
-Formed s = PassedBy false s
 
 -- none of these tests fails
 abbrev Clear : List Test → Type 0

@@ -16,7 +16,7 @@ use Rattle.format.specs.Refusals.{contentsTests, offsetTests, factTest, 
 use Rattle.format.specs.Checked.{Answers}
 use Rattle.format.specs.Legal.{Legal}
 use Rattle.format.specs.Laws.First.{none, pass, go-on, each-none}
-use Rattle.format.specs.Laws.Accepted.{RightContents, PassedRule, PassedBy, Passed, Formed}
+use Rattle.format.specs.Passed.{RightContents, PassedRule, PassedBy, Passed, Formed}
 use Rattle.format.specs.Laws.Decoded.{decode-facts, decode-layers, decode-rules}
 use Rattle.format.specs.declared.Verdict.the-variants.{Accepted}
 use Rattle.format.specs.declared.validate.Found.the-variants.{Nothing}

@@ -12,7 +12,8 @@ use Rattle.format.specs.File.{R, rulesAt, after, startOf, ruleAt, decode
 use Rattle.format.specs.Refusals.{verdict}
 use Rattle.format.specs.Walk.{firstAt, stepAt, partOf, entryAt, bodyOf, metBy, walk}
 use Rattle.format.specs.Laws.RulesRead.{body-length, body-literal}
-use Rattle.format.specs.Laws.Accepted.{Formed, passed, passed-formed}
+use Rattle.format.specs.Laws.Accepted.{passed, passed-formed}
+use Rattle.format.specs.Passed.{Formed}
 use Rattle.format.specs.declared.Verdict.the-variants.{Accepted}
 use Rattle.format.specs.declared.walk.Step.the-variants as step
 use Rattle.format.specs.declared.walk.Entry.the-variants as entry

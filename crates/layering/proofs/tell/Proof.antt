@@ -2,7 +2,7 @@
 use mathlib.Core.Path.{refl}
 use borrow.Author.Needs.{needs}
 use Rattle.layering.specs.Told.{short}
-use Rattle.layering.specs.Laws.Telling.{tell-refused, tell-formed, tell-done, tell-high, tell-chain}
+use Rattle.layering.specs.Laws.Telling.{tell-refused, tell-formed, tell-layers, tell-high, tell-chain}
 use Rattle.layering.proofs.tell.Statement.{statement}
 use Rattle.layering.proofs.tell.Tie as tie
 
@@ -76,8 +76,8 @@ returns-2 c =
     let at-check = at-derived .before .before in
     let at-if1 = at-check .before in
     let start = at-if1 .before .before .before in
-    tell-done (start .args .file .now) (start .args .out .now) (at-if1 .if1 .left) (at-check .check-by .ensures)
-    (at-derived .derived .given .1) (at-enum .enum-told .given .1) (at-layers .layers .ensures)
+    tell-layers (start .args .file .now) (start .args .out .now) (at-if1 .if1 .left) (at-check .check-by .ensures)
+    (at-derived .derived .given .1) _ _ (at-layers .layers .ensures) (at-enum .enum-told .given .1)
 
 same-length-2 : tie.Need-same-length-2
 same-length-2 c = search needs
@@ -91,7 +91,7 @@ returns-3 c =
     let at-if1 = at-check .before in
     let start = at-if1 .before .before .before in
     tell-high (start .args .file .now) (start .args .out .now) (at-if1 .if1 .left) (at-check .check-by .ensures)
-    (at-derived .derived .given .1) (at-enum .atom .given .1) (at-layers .layers .ensures) (c .refusal2 .ensures)
+    (at-derived .derived .given .1) _ _ (at-layers .layers .ensures) (at-enum .atom .given .1) (c .refusal2 .ensures)
 
 same-length-3 : tie.Need-same-length-3
 same-length-3 c = search needs
@@ -105,7 +105,7 @@ returns-4 c =
     let at-if1 = at-check .before in
     let start = at-if1 .before .before .before in
     tell-chain (start .args .file .now) (start .args .out .now) (at-if1 .if1 .left) (at-check .check-by .ensures)
-    (at-derived .derived .given .1) (at-enum .atom2 .given .1) (at-layers .layers .ensures)
+    (at-derived .derived .given .1) _ _ (at-layers .layers .ensures) (at-enum .atom2 .given .1)
 
 returns-5 : tie.Need-returns-5
 returns-5 c =

@@ -12,7 +12,8 @@ use Rattle.meaning.specs.Lists.{upto}
 use Rattle.meaning.specs.Laws.Tests.{length-upto, getD-upto}
 use Rattle.format.specs.File.{F, D}
 use Rattle.layering.specs.Rising.{layerIn}
-use Rattle.layering.specs.Calls.{WriteAsked, LayersDone, HighDone}
+use Rattle.layering.specs.Calls.{WriteAsked}
+use Rattle.layering.specs.Told.{LayersDone, HighDone}
 use Rattle.layering.specs.Laws.Pass.{in-derived, in-place}
 
 -- the layers below place i fit in a byte

@@ -16,7 +16,8 @@ use Rattle.meaning.specs.Laws.Weights.{weigh-same}
 use Rattle.format.specs.Bytes.{byte, u16, u32}
 use Rattle.format.specs.File.{F, D, R, factAt, layersAt, rulesAt, after, startOf, literal, literalAt, ruleAt, decode}
 use Rattle.format.specs.Refusals.{breaks, verdict}
-use Rattle.format.specs.Laws.Accepted.{RightContents, PassedRule, Passed, Formed, formed-known}
+use Rattle.format.specs.Laws.Accepted.{formed-known}
+use Rattle.format.specs.Passed.{RightContents, PassedRule, Passed, Formed}
 use Rattle.format.specs.Laws.Decoded.{decode-facts, decode-layers, fact-is}
 use Rattle.format.specs.Laws.Passing.{passed-accepted}
 use Rattle.format.specs.Laws.Reading.{Stands, stands-whole, stands-left, stands-right, stands-at, upto-bytes}

@@ -11,8 +11,7 @@ use lib.Dec.{T, eqb, ltb, eqb→eq, nltb→le}
 use lib.ListN.{length, List·getD-eq-default}
 use Rattle.meaning.specs.Lists.{any, all, upto}
 use Rattle.meaning.specs.Meaning.{Literal, Rule, Program, atoms, Choice, Atoms, has, layerOf, isTrue, gives, round, rounds, model}
-use Rattle.meaning.specs.Laws.Tests.{T-or-left, T-or-right, T-or-cases, T-and, T-and-left, T-and-right, eqb-of}
-use Rattle.meaning.specs.Laws.Tests.{any-intro, any-elim, all-mono, getD-upto, getD-upto-past, length-upto, mem-upto}
+use Rattle.meaning.specs.Laws.Tests.{T-or-left, T-or-right, T-or-cases, T-and, T-and-left, T-and-right, eqb-of, any-intro, any-elim, all-mono, getD-upto, getD-upto-past, length-upto, mem-upto}
 use Rattle.meaning.specs.Laws.Settle.{Growth, times, times-good, Still, settles}
 
 -- ---- the statement

@@ -1,7 +1,9 @@
--- `reach_given` meets its contract: what fits is handed on in its used parts, and else the answer is 36 (Laws/Sharing).
+-- `reach_given` meets its contract: what fits is handed on in its used parts, and else the answer is 36 (Laws/Parts).
 use borrow.Author.Needs.{needs}
-use Rattle.calls.specs.Laws.Questioning.{room-part, places-part, inner-asked}
-use Rattle.calls.specs.Laws.Sharing as laws
+use Rattle.calls.specs.Calls.{sharing}
+use Rattle.calls.specs.Laws.Tables.{gives, misfit}
+use Rattle.calls.specs.Laws.Parts.{room-size, places-fit, parts-fit}
+use Rattle.calls.specs.Laws.Sharing.{given-parts}
 use Rattle.reach.proofs.reach_given.Statement.{statement}
 use Rattle.reach.proofs.reach_given.Tie as tie
 
@@ -19,9 +21,8 @@ returns c =
     let at-if = c .before in
     let at-fits = at-if .before in
     let start = at-fits .before .before .before .before .before .before .before in
-    laws.given-misfit (start .args .file .now) (start .args .nodes .now) (start .args .places .now) (start .args .state)
-    (at-fits .fits2 .ensures) (start .args .atom) (start .args .evidence .now) (start .args .numbers .now) (at-if .if1 .taken)
-    (c .no-share .ensures)
+    gives (misfit (at-fits .fits2 .ensures) (at-if .if1 .taken)
+    (λ i. sharing (c .no-share .ensures i) (start .args .nodes .now) (start .args .places .now) (start .args .numbers .now)))
 
 room-requires : tie.Need-room-requires
 room-requires c κs = search needs
@@ -32,15 +33,14 @@ slice-relend-prefix-given c = search needs
 slice-aggregate-given : tie.Need-slice-aggregate-given
 slice-aggregate-given c =
     let start = c .before .before .before .before .before .before .before .before .before .before in
-    room-part (start .args .nodes .now) (c .before .room .ensures)
+    room-size (start .args .nodes .now) (c .before .room .ensures)
 
 slice-aggregate-given-2 : tie.Need-slice-aggregate-given-2
 slice-aggregate-given-2 c =
     let at-if = c .before .before .before in
     let at-fits = at-if .before in
     let start = at-fits .before .before .before .before .before .before .before in
-    places-part (start .args .file .now) (start .args .nodes .now) (start .args .places .now) (start .args .state)
-    (at-fits .fits2 .ensures) (at-if .if1 .left)
+    places-fit _ _ _ (start .args .state) (at-fits .fits2 .ensures) (at-if .if1 .left)
 
 given-requires : tie.Need-given-requires
 given-requires c κs =
@@ -48,8 +48,7 @@ given-requires c κs =
     let at-if = at-room .before in
     let at-fits = at-if .before in
     let start = at-fits .before .before .before .before .before .before .before in
-    inner-asked (start .args .file .now) (start .args .nodes .now) (start .args .places .now) (start .args .state)
-    (at-fits .fits2 .ensures) (at-if .if1 .left) (at-room .room .ensures)
+    parts-fit _ _ _ (start .args .state) (at-fits .fits2 .ensures) (at-if .if1 .left) (at-room .room .ensures)
 
 same-length-2 : tie.Need-same-length-2
 same-length-2 c = search needs
@@ -64,9 +63,8 @@ returns-2 c =
     let at-if = at-room .before in
     let at-fits = at-if .before in
     let start = at-fits .before .before .before .before .before .before .before in
-    laws.given-host (start .args .file .now) (start .args .nodes .now) (start .args .places .now) (start .args .state)
-    (at-fits .fits2 .ensures) (start .args .atom) (start .args .evidence .now) (start .args .numbers .now) (at-if .if1 .left)
-    (at-room .room .ensures) _ (at-given .given .ensures)
+    given-parts _ _ _ (start .args .state) (at-fits .fits2 .ensures) (at-if .if1 .left) (at-room .room .ensures) (start .args .atom)
+    (start .args .evidence .now) (start .args .numbers .now) (at-given .given .ensures)
 
 pub reach-given-spec : {M : Type 1} → statement M
 reach-given-spec =

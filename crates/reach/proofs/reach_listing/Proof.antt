@@ -1,6 +1,9 @@
--- `reach_listing` meets its contract: what fits is handed on in its used parts, and else the answer is 36 (Laws/Questioning).
+-- `reach_listing` meets its contract: what fits is handed on in its used parts, and else the answer is 36 (Laws/Parts).
 use borrow.Author.Needs.{needs}
-use Rattle.calls.specs.Laws.Questioning as laws
+use Rattle.calls.specs.Calls.{listing}
+use Rattle.calls.specs.Laws.Tables.{gives, misfit}
+use Rattle.calls.specs.Laws.Parts.{room-size, places-fit, parts-fit}
+use Rattle.calls.specs.Laws.Questioning.{listing-parts}
 use Rattle.reach.proofs.reach_listing.Statement.{statement}
 use Rattle.reach.proofs.reach_listing.Tie as tie
 
@@ -15,8 +18,8 @@ returns c =
     let at-if = c .before in
     let at-fits = at-if .before in
     let start = at-fits .before .before .before .before .before in
-    laws.listing-misfit (start .args .file .now) (start .args .nodes .now) (start .args .places .now) (start .args .state)
-    (at-fits .fits2 .ensures) (at-if .if1 .taken) (start .args .atom) (c .no-listing .ensures)
+    gives (misfit (at-fits .fits2 .ensures) (at-if .if1 .taken)
+    (λ i. listing (c .no-listing .ensures i) (start .args .nodes .now) (start .args .places .now) (start .args .out .now)))
 
 room-requires : tie.Need-room-requires
 room-requires c κs = search needs
@@ -24,15 +27,14 @@ room-requires c κs = search needs
 slice-aggregate-listing : tie.Need-slice-aggregate-listing
 slice-aggregate-listing c =
     let start = c .before .before .before .before .before .before .before .before in
-    laws.room-part (start .args .nodes .now) (c .before .room .ensures)
+    room-size (start .args .nodes .now) (c .before .room .ensures)
 
 slice-aggregate-listing-2 : tie.Need-slice-aggregate-listing-2
 slice-aggregate-listing-2 c =
     let at-if = c .before .before .before in
     let at-fits = at-if .before in
     let start = at-fits .before .before .before .before .before in
-    laws.places-part (start .args .file .now) (start .args .nodes .now) (start .args .places .now) (start .args .state)
-    (at-fits .fits2 .ensures) (at-if .if1 .left)
+    places-fit _ _ _ (start .args .state) (at-fits .fits2 .ensures) (at-if .if1 .left)
 
 listing-requires : tie.Need-listing-requires
 listing-requires c κs =
@@ -40,8 +42,7 @@ listing-requires c κs =
     let at-if = at-room .before in
     let at-fits = at-if .before in
     let start = at-fits .before .before .before .before .before in
-    laws.inner-asked (start .args .file .now) (start .args .nodes .now) (start .args .places .now) (start .args .state)
-    (at-fits .fits2 .ensures) (at-if .if1 .left) (at-room .room .ensures)
+    parts-fit _ _ _ (start .args .state) (at-fits .fits2 .ensures) (at-if .if1 .left) (at-room .room .ensures)
 
 same-length : tie.Need-same-length
 same-length c = search needs
@@ -53,8 +54,7 @@ returns-2 c =
     let at-if = at-room .before in
     let at-fits = at-if .before in
     let start = at-fits .before .before .before .before .before in
-    laws.listing-host (start .args .file .now) (start .args .nodes .now) (start .args .places .now) (start .args .state)
-    (at-fits .fits2 .ensures) (at-if .if1 .left) (at-room .room .ensures) (start .args .atom)
+    listing-parts _ _ _ (start .args .state) (at-fits .fits2 .ensures) (at-if .if1 .left) (at-room .room .ensures) (start .args .atom)
     (start .args .out .now) (at-call .listing .ensures)
 
 pub reach-listing-spec : {M : Type 1} → statement M

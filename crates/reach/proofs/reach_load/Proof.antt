@@ -1,6 +1,7 @@
 -- `reach_load` meets its contract: the check and 36, then the used parts of the lent memory are handed on. Assumes nothing.
 use borrow.Author.Needs.{needs}
-use Rattle.calls.specs.Laws.Stepping.{load-refused, load-short, load-asked, load-parts, room-size, places-size}
+use Rattle.calls.specs.Laws.Parts.{room-size, places-size}
+use Rattle.calls.specs.Laws.Stepping.{load-refused, load-short, load-asked, load-parts}
 use Rattle.reach.proofs.reach_load.Statement.{statement}
 use Rattle.reach.proofs.reach_load.Tie as tie
 

@@ -1,7 +1,9 @@
 -- `reach_run` meets its contract: 36 first, then the used parts of the lent memory are handed on. Assumes nothing.
+use mathlib.Core.Path.{refl}
 use borrow.Author.Needs.{needs}
-use borrow.Author.Tests.{not-true, not-false}
-use Rattle.calls.specs.Laws.Stepping.{run-misfit, run-parts, room-size, places-size, long-enough, parts-fit}
+use Rattle.calls.specs.Laws.Tables.{gives, misfit}
+use Rattle.calls.specs.Laws.Parts.{room-size, places-fit, long-enough, parts-fit}
+use Rattle.calls.specs.Laws.Stepping.{run-parts}
 use Rattle.reach.proofs.reach_run.Statement.{statement}
 use Rattle.reach.proofs.reach_run.Tie as tie
 
@@ -16,9 +18,7 @@ same-length-2 c = search needs
 
 returns : tie.Need-returns
 returns c =
-    let start = c .before .before .before .before .before .before .before in
-    run-misfit _ _ _ (start .args .state) (c .before .fits2 .ensures)
-    (not-true _ (c .if1 .taken)) (start .args .budget)
+    gives (misfit (c .before .fits2 .ensures) (c .if1 .taken) refl)
 
 room-requires : tie.Need-room-requires
 room-requires c κs = search needs
@@ -36,16 +36,14 @@ slice-relend-prefix-run-2 c =
     let at-if1 = c .before .before in
     let at-fits2 = at-if1 .before in
     let start = at-fits2 .before .before .before .before .before .before in
-    long-enough _ _ _ (start .args .state) (at-fits2 .fits2 .ensures)
-    (not-false _ (at-if1 .if1 .left))
+    long-enough _ _ _ (start .args .state) (at-fits2 .fits2 .ensures) (at-if1 .if1 .left)
 
 slice-aggregate-run-2 : tie.Need-slice-aggregate-run-2
 slice-aggregate-run-2 c =
     let at-if1 = c .before .before .before in
     let at-fits2 = at-if1 .before in
     let start = at-fits2 .before .before .before .before .before .before in
-    places-size (start .args .places .now) (long-enough _ _ _ (start .args .state) (at-fits2 .fits2 .ensures)
-    (not-false _ (at-if1 .if1 .left)))
+    places-fit _ _ _ (start .args .state) (at-fits2 .fits2 .ensures) (at-if1 .if1 .left)
 
 run-requires : tie.Need-run-requires
 run-requires c κs =
@@ -53,8 +51,7 @@ run-requires c κs =
     let at-if1 = at-room .before in
     let at-fits2 = at-if1 .before in
     let start = at-fits2 .before .before .before .before .before .before in
-    parts-fit _ _ _ (start .args .state) (at-fits2 .fits2 .ensures)
-    (not-false _ (at-if1 .if1 .left)) (at-room .room .ensures)
+    parts-fit _ _ _ (start .args .state) (at-fits2 .fits2 .ensures) (at-if1 .if1 .left) (at-room .room .ensures)
 
 same-length-3 : tie.Need-same-length-3
 same-length-3 c = search needs
@@ -69,8 +66,8 @@ returns-2 c =
     let at-if1 = at-room .before in
     let at-fits2 = at-if1 .before in
     let start = at-fits2 .before .before .before .before .before .before in
-    run-parts _ _ _ (start .args .state) (at-fits2 .fits2 .ensures)
-    (not-false _ (at-if1 .if1 .left)) (at-room .room .ensures) (start .args .budget) (at-run .run .ensures)
+    run-parts _ _ _ (start .args .state) (at-fits2 .fits2 .ensures) (at-if1 .if1 .left) (at-room .room .ensures)
+    (start .args .budget) (at-run .run .ensures)
 
 pub reach-run-spec : {M : Type 1} → statement M
 reach-run-spec =

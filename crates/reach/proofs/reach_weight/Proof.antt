@@ -1,6 +1,9 @@
--- `reach_weight` meets its contract: what fits is handed on in its used parts, and else the answer is 36 (Laws/Questioning).
+-- `reach_weight` meets its contract: what fits is handed on in its used parts, and else the answer is 36 (Laws/Parts).
 use borrow.Author.Needs.{needs}
-use Rattle.calls.specs.Laws.Questioning as laws
+use Rattle.calls.specs.Calls.{weighing}
+use Rattle.calls.specs.Laws.Tables.{gives, misfit}
+use Rattle.calls.specs.Laws.Parts.{room-size, places-fit, parts-fit}
+use Rattle.calls.specs.Laws.Questioning.{weight-parts}
 use Rattle.reach.proofs.reach_weight.Statement.{statement}
 use Rattle.reach.proofs.reach_weight.Tie as tie
 
@@ -15,8 +18,8 @@ returns c =
     let at-if = c .before in
     let at-fits = at-if .before in
     let start = at-fits .before .before .before .before .before in
-    laws.weight-misfit (start .args .file .now) (start .args .nodes .now) (start .args .places .now) (start .args .state)
-    (at-fits .fits2 .ensures) (at-if .if1 .taken) (start .args .atom) (c .no-weight .ensures)
+    gives (misfit (at-fits .fits2 .ensures) (at-if .if1 .taken)
+    (λ i. weighing (c .no-weight .ensures i) (start .args .nodes .now) (start .args .places .now) (start .args .numbers .now)))
 
 room-requires : tie.Need-room-requires
 room-requires c κs = search needs
@@ -24,15 +27,14 @@ room-requires c κs = search needs
 slice-aggregate-weight : tie.Need-slice-aggregate-weight
 slice-aggregate-weight c =
     let start = c .before .before .before .before .before .before .before .before in
-    laws.room-part (start .args .nodes .now) (c .before .room .ensures)
+    room-size (start .args .nodes .now) (c .before .room .ensures)
 
 slice-aggregate-weight-2 : tie.Need-slice-aggregate-weight-2
 slice-aggregate-weight-2 c =
     let at-if = c .before .before .before in
     let at-fits = at-if .before in
     let start = at-fits .before .before .before .before .before in
-    laws.places-part (start .args .file .now) (start .args .nodes .now) (start .args .places .now) (start .args .state)
-    (at-fits .fits2 .ensures) (at-if .if1 .left)
+    places-fit _ _ _ (start .args .state) (at-fits .fits2 .ensures) (at-if .if1 .left)
 
 weight-requires : tie.Need-weight-requires
 weight-requires c κs =
@@ -40,8 +42,7 @@ weight-requires c κs =
     let at-if = at-room .before in
     let at-fits = at-if .before in
     let start = at-fits .before .before .before .before .before in
-    laws.inner-asked (start .args .file .now) (start .args .nodes .now) (start .args .places .now) (start .args .state)
-    (at-fits .fits2 .ensures) (at-if .if1 .left) (at-room .room .ensures)
+    parts-fit _ _ _ (start .args .state) (at-fits .fits2 .ensures) (at-if .if1 .left) (at-room .room .ensures)
 
 same-length : tie.Need-same-length
 same-length c = search needs
@@ -53,8 +54,7 @@ returns-2 c =
     let at-if = at-room .before in
     let at-fits = at-if .before in
     let start = at-fits .before .before .before .before .before in
-    laws.weight-host (start .args .file .now) (start .args .nodes .now) (start .args .places .now) (start .args .state)
-    (at-fits .fits2 .ensures) (at-if .if1 .left) (at-room .room .ensures) (start .args .atom)
+    weight-parts _ _ _ (start .args .state) (at-fits .fits2 .ensures) (at-if .if1 .left) (at-room .room .ensures) (start .args .atom)
     (start .args .numbers .now) (at-call .weight .ensures)
 
 pub reach-weight-spec : {M : Type 1} → statement M

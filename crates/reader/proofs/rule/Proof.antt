@@ -21,11 +21,8 @@ use prog.Wp.{Heap, Out, Env, afterSeq, afterBlock, afterTurn, Calls, Loops, Wp, 
 use ghost.Atoms.{Atoms, sem}
 use contract.Monad.{Fun, fact}
 use contract.Running.{givenOf, tables, tablesOf}
-use types.Kit.{Given, Item, ‵, raw, _⊛_, ⋆, runs, lands, anyQ, atRet, Sq, some, later, _$_, _∵_, !, qed, by, move, keep, drop, use1, use2}
-use types.Kit.{split, join, rewrite, pick, fsplit, fjoin, suffices, frame, await, done}
-use types.Run.{look, store, init, forget, stop, from, load, lit, of-opd, and-then, no-more, bin, addr, assigns, land, land-last, first}
-use types.Run.{skips, jumps, blocks, branches, returns, enter, alloc1, alloc0, params1, pass1, pass0, free1, free0, exec, Below, again}
-use types.Run.{loops}
+use types.Kit.{Given, Item, ‵, raw, _⊛_, ⋆, runs, lands, anyQ, atRet, Sq, some, later, _$_, _∵_, !, qed, by, move, keep, drop, use1, use2, split, join, rewrite, pick, fsplit, fjoin, suffices, frame, await, done}
+use types.Run.{look, store, init, forget, stop, from, load, lit, of-opd, and-then, no-more, bin, addr, assigns, land, land-last, first, skips, jumps, blocks, branches, returns, enter, alloc1, alloc0, params1, pass1, pass0, free1, free0, exec, Below, again, loops}
 use sound.WpLaws.{FmC, fmOf, WpFn-mono}
 use denote.RattleType.{owns}
 use denote.Laws.{Is, shows}
@@ -36,7 +33,6 @@ use denote.Ref.{RefT, NamedLft, now}
 use denote.Signature.{plain}
 use denote.Slice.{sliceTy, sliceVal, ShrSlice, slice-vals, shr-slice-tells, shr-slice-lawful, shr-slice-copy}
 use denote.Steps.{only, owned, peeks, heard, nothing}
-use denote.Enum.Laws as EL
 use denote.Struct.Laws as LL
 use denote.Triple.Statement.{Contract, Triple}
 use denote.Triple.Call.{calls-at, calls-at-last}

@@ -11,7 +11,7 @@ use Rattle.meaning.specs.Meaning.{Literal}
 use Rattle.format.specs.Bytes.{u16}
 use Rattle.format.specs.File.{R, startOf, ruleAt, decode}
 use Rattle.format.specs.Walk.{stepAt}
-use Rattle.format.specs.Laws.Accepted.{Formed}
+use Rattle.format.specs.Passed.{Formed}
 use Rattle.format.specs.Laws.Walked.{first-start, step-rule, step-end, body-rule}
 use Rattle.format.specs.declared.walk.Step.{Step}
 use Rattle.format.specs.declared.walk.Step.the-variants as step

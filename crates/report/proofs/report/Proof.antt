@@ -1,7 +1,7 @@
 -- `report::report` meets its contract: the text is that of the verdict. Assumes nothing.
 use borrow.Author.Needs.{needs}
 use Rattle.report.specs.Laws.Said.{accepts, accepted-said, refused-said}
-use Rattle.report.specs.Laws.Wrote.{wrote-is, reported}
+use Rattle.text.specs.Laws.Wrote.{wrote-is, wrote-printed}
 use Rattle.report.proofs.report.Statement.{statement}
 use Rattle.report.proofs.report.Tie as tie
 
@@ -38,7 +38,7 @@ returns c =
     let at-accepted = c .before .before in
     let at-total = at-accepted .before .before .before in
     let at-check = at-total .before .before in
-    reported (wrote-is (at-accepted .accepted .ensures) (accepted-said _ (at-check .check .ensures) (at-total .total .given .1)))
+    wrote-printed (wrote-is (at-accepted .accepted .ensures) (accepted-said _ (at-check .check .ensures) (at-total .total .given .1)))
 
 same-length-2 : tie.Need-same-length-2
 same-length-2 c = search needs
@@ -50,7 +50,7 @@ returns-2 c =
     let at-number = at-detail .before in
     let at-why = at-number .before .before .before in
     let at-check = at-why .before .before in
-    reported (wrote-is (at-refused .refused .ensures)
+    wrote-printed (wrote-is (at-refused .refused .ensures)
     (refused-said _ (at-check .check .ensures) (at-why .why .given .1) (at-number .number .ensures) (at-detail .detail .ensures)))
 
 pub report-spec : {M : Type 1} → statement M

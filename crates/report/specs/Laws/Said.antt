@@ -9,7 +9,8 @@ use Rattle.format.specs.declared.Refusal.{Refusal}
 use Rattle.format.specs.declared.Verdict.{Verdict}
 use Rattle.format.specs.declared.Verdict.the-variants.{Accepted, Refused}
 use Rattle.rounds.specs.Load.{load}
-use Rattle.report.specs.Report.{refusedText, loadedText, verdictText, said}
+use Rattle.text.specs.Text.{refusedText}
+use Rattle.report.specs.Report.{loadedText, verdictText, said}
 use Rattle.report.specs.Asked.{Room, Accepts}
 
 module _ (s : List ℕ) {v : Verdict} (e : v ≡ verdict s) where

@@ -14,14 +14,12 @@ use Rattle.update.specs.Update.{Store}
 use Rattle.rounds.specs.Load.{Loaded, loaded, loadFull, load}
 use Rattle.rounds.specs.Run.{How, Finished, Spent, Full, run}
 use Rattle.questions.specs.Questions.{weightSoFar}
-use Rattle.report.specs.Report.{refusedText, fullText, header, weightLines, finishedText, endText, loadedText, verdictText, said}
+use Rattle.text.specs.Laws.Decimal.{decimal-most}
+use Rattle.text.specs.Laws.Lines.{lines-most}
+use Rattle.text.specs.Laws.Parts.{refused-most}
+use Rattle.report.specs.Report.{fullText, header, weightLine, weightLines, finishedText, endText, loadedText, verdictText, said}
 use Rattle.report.specs.Laws.Answer.{accepted-few}
-use Rattle.report.specs.Laws.Decimal.{decimal-most}
-use Rattle.report.specs.Laws.Texts.{header-most, lines-most}
-
-refused-short : (n d : ℕ) → length (refusedText n d) ≤ 64
-unfolding refusedText
-refused-short n d = simp length-append (omega (arith, decimal-most n, decimal-most d))
+use Rattle.report.specs.Laws.Texts.{header-most, line-most}
 
 full-short : (u : ℕ) → length (fullText u) ≤ 64
 unfolding fullText
@@ -36,7 +34,7 @@ module _ (P : Program) (few : atoms P ≤ 544) where
         arith,
         length-append first (weightLines (atoms P) weight),
         header-most (length (P .facts)) (length (P .layers)) (total (P .facts)) updates,
-        lines-most (atoms P) weight (omega arith),
+        lines-most (atoms P) (λ a. weightLine a (weight a)) 25 (λ a h. line-most a (weight a) (omega arith)),
       )
 
   end-short : (h : How) (updates : ℕ) (st : Store) → length (endText P h updates st) ≤ 16384
@@ -49,7 +47,7 @@ module _ (P : Program) (few : atoms P ≤ 544) where
   loaded-short loadFull = omega (arith, full-short 0)
 
 verdict-short : (s : List ℕ) (v : Verdict) → verdict s ≡ v → length (verdictText s v) ≤ 16384
-verdict-short s (Refused w) e = omega (arith, refused-short (number w) (detail w))
+verdict-short s (Refused w) e = omega (arith, refused-most (number w) (detail w))
 verdict-short s (Accepted f d r t) e = loaded-short (decode s) (accepted-few (passed s e)) (load (decode s) 4096)
 
 -- every text has room

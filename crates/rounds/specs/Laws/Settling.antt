@@ -9,8 +9,7 @@ use borrow.Author.Tests.{not-false, eqb-true}
 use Rattle.meaning.specs.Meaning.{Program, atoms, layerOf, Layered}
 use Rattle.meaning.specs.Laws.Settle.{times}
 use Rattle.growth.specs.Growth.{Present, updated, updatedAll, Settled}
-use Rattle.growth.specs.Laws.Present.{StateOf, settled-still}
-use Rattle.growth.specs.Laws.Present.{settled-same as settled-alike}
+use Rattle.growth.specs.Laws.Present.{StateOf, settled-still, settled-same as settled-alike}
 use Rattle.growth.specs.Laws.Rounds.{OfLayer, rounds-settle}
 use Rattle.update.specs.Update.{Store, done, update}
 use Rattle.update.specs.Laws.Held.{present, after-present}

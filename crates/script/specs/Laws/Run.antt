@@ -13,7 +13,7 @@ use lib.Seq.{length-take-le, take-suc-set, drop-set-lt, drop-drop, getD-set-same
 use borrow.Author.Tests.{lt-ltb, le-ltb}
 use Rattle.diagram.specs.Listing.{Numbered, number}
 use Rattle.store.specs.Store.{nodesIn}
-use Rattle.store.specs.Calls.{zeroed}
+use Rattle.meaning.specs.Lists.{zeroed}
 use Rattle.store.specs.Laws.Nodes.{pack-unpack-all, nodesIn-length}
 use Rattle.store.specs.Laws.Tree.{none-sound}
 use Rattle.store.specs.Laws.Filled.{filled-length, filled-drop}

@@ -1,69 +1,45 @@
 -- Demand 2's part of weight so far: 13 and 19 in order, and a weight that is never above the true one and at the finish is the true one.
-use mathlib.Core.Path.{_≡_, refl, sym, _∙_}
-use mathlib.Core.Bool.{Bool, true, false}
-use mathlib.Core.List.{List, [], _∷_}
-use Prim.Native.Nat.{ℕ, _+_}
-use lib.Dec.{eqb, ltb, leb}
-use lib.ListN.{length}
-use borrow.Author.Tests.{eqb-true, eqb-false}
-use Rattle.meaning.specs.Meaning.{atoms}
+use mathlib.Core.Path.{_≡_, ap, _∙_}
+use mathlib.Core.Bool.{not}
+use mathlib.Core.List.{List}
+use Prim.Native.Nat.{ℕ, _≤_, _<_}
+use Rattle.meaning.specs.Meaning.{Program, Layered, atoms, layerOf, holds, weightOf}
+use Rattle.meaning.specs.Laws.Weights.{weigh-same}
 use Rattle.format.specs.Bytes.{Bytes}
-use Rattle.format.specs.File.{decode}
-use Rattle.store.specs.Calls.{zeroed}
+use Rattle.update.specs.Update.{Store}
+use Rattle.update.specs.Laws.Held.{present}
+use Rattle.rounds.specs.Reached.{Reached as Reached-store}
+use Rattle.rounds.specs.Laws.Reached.{exact-below}
 use Rattle.questions.specs.Questions.{weightSoFar}
 use Rattle.questions.specs.Laws.Answers.{weight-so-far-below, weight-so-far-exact}
-use Rattle.calls.specs.Calls.{ours, Weighing, weightRefusal}
-use Rattle.demands.specs.Demands.{Weighed}
-use Rattle.demands.specs.Hand.{Hand, room, store, weighs, Reached}
+use Rattle.state.specs.Hand.{Hand}
+use Rattle.calls.specs.Refusals.{Table, firstOf, later, weightTests}
+use Rattle.calls.specs.Calls.{Layering, weightHost, ours}
+use Rattle.demands.specs.Demands.{Weighed, Weighs}
+use Rattle.demands.specs.Reached.{Reached}
 use Rattle.demands.specs.Laws.Ground.{Ground, ground, finished}
-use Rattle.demands.specs.Laws.Tests.{below-not, above-not, First, none-left, or-else}
+use Rattle.demands.specs.Laws.One.{ours-weight}
+use Rattle.demands.specs.Laws.Tables.{first-no}
 
--- what the call gives by whether its refusal is 0
-abbrev weighing : Bool → ℕ → ℕ → List ℕ → List ℕ → Weighing
-weighing none n w zeros numbers = elim none [
-  | true ↦ record { answer = record { refusal = 0; detail = 0; weight = w }; numbers = zeros }
-  | false ↦ record { answer = record { refusal = n; detail = 0; weight = 0 }; numbers = numbers }
-]
+-- where all fits together, 36 is not due
+pub fit-first : {s : List ℕ} {h : Hand} → Ground s h → (ts : Table) → firstOf (later s h ts) .0 ≡ firstOf ts .0
+fit-first {s} {h} g ts = ap (λ x. x .0) (first-no (36, 0, _) ts (ap not (g .fit)))
 
--- it answers this refusal,
-weighing-refusal : (n w : ℕ) (zeros numbers : List ℕ) (none : Bool) → eqb n 0 ≡ none → weighing none n w zeros numbers .answer .refusal ≡ n
-weighing-refusal n w zeros numbers true e = sym (eqb-true n 0 e)
-weighing-refusal n w zeros numbers false e = refl
-
--- and this weight where nothing is refused
-weighing-weight : (n w : ℕ) (zeros numbers : List ℕ) (none : Bool) → eqb n 0 ≡ none →
-    weighing none n w zeros numbers .answer .refusal ≡ 0 → weighing none n w zeros numbers .answer .weight ≡ w
-weighing-weight n w zeros numbers true e z = refl
-weighing-weight n w zeros numbers false e z = absurd (eqb-false n 0 e z)
-
-module _ (s : List ℕ) (h : Hand) (a : ℕ) (numbers : List ℕ) where
-  abbrev refused : ℕ
-  refused = weightRefusal s (h .nodes) (h .places) (h .state) a numbers
-
-  abbrev zeros : List ℕ
-  zeros = zeroed numbers 0 (room h + 2)
-
-  refusal-is : weighs ours s h a numbers .answer .refusal ≡ refused
-  refusal-is = weighing-refusal refused (weightSoFar (decode s) (store h) a) zeros numbers _ refl
-
-  weight-is : weighs ours s h a numbers .answer .refusal ≡ 0 →
-      weighs ours s h a numbers .answer .weight ≡ weightSoFar (decode s) (store h) a
-  weight-is = weighing-weight refused (weightSoFar (decode s) (store h) a) zeros numbers _ refl
-
--- "Weight so far: 13, 19."
-first-is : {s : List ℕ} {h : Hand} → Ground s h → (a : ℕ) (numbers : List ℕ) →
-    First ((13, leb (atoms (decode s)) a) ∷ (19, ltb (length numbers) (room h + 2)) ∷ []) (refused s h a numbers)
-first-is {s} {h} g a numbers = rw (g .fit)
-    (or-else 13 (ltb a (atoms (decode s))) (above-not a (atoms (decode s)))
-    (or-else 19 (leb (room h + 2) (length numbers)) (below-not (length numbers) (room h + 2)) none-left))
+-- the atoms of closed layers weigh what they will at the finish
+settled-weight : {P : Program} → Layered P → atoms P ≤ 544 → {k : ℕ} {st : Store} → Reached-store P k st → (a : ℕ) → layerOf P a < k →
+    weightSoFar P st a ≡ weightOf P a
+unfolding weightOf
+settled-weight {P} w few {st = st} r a lt = weigh-same (P .facts) (present st a) (holds P a) (exact-below w few r a lt)
 
 -- the field `weight` of Exact
-pub ours-weight : (s : List ℕ) → Bytes s → (h : Hand) → Reached ours s h → (a : ℕ) (numbers : List ℕ) →
-    Weighed s h a numbers (weighs ours s h a numbers)
-ours-weight s bytes h r a numbers =
+pub ours-weighed : {layers : List ℕ → List ℕ → Layering} (s : List ℕ) → Bytes s → (h : Hand) → Reached (ours layers) s h →
+    (a : ℕ) (numbers : List ℕ) → Weighed s h a numbers (weightHost s h a numbers)
+ours-weighed s bytes h r a numbers =
     let g : Ground s h = ground bytes r in
+    let w : Weighs s h a numbers (weightHost s h a numbers) = ours-weight s h a numbers in
     record {
-      refusal = refusal-is s h a numbers ∙ first-is g a numbers .is;
-      never-above = λ z. rw (weight-is s h a numbers z) (weight-so-far-below (g .layered) (g .few) (g .reached) a);
-      exact = λ z e. weight-is s h a numbers z ∙ weight-so-far-exact (g .layered) (g .few) (finished g e) a;
+      refusal = w .refuses .number ∙ fit-first g (weightTests s h a numbers);
+      never-above = λ z. rw (w .answered z .0) (weight-so-far-below (g .layered) (g .few) (g .reached) a);
+      settled = λ z lt. w .answered z .0 ∙ settled-weight (g .layered) (g .few) (g .reached) a lt;
+      exact = λ z e. w .answered z .0 ∙ weight-so-far-exact (g .layered) (g .few) (finished g e) a;
     }

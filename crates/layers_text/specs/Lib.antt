@@ -1,0 +1,3 @@
+pub mod LayersText
+pub mod Asked
+pub mod Laws
