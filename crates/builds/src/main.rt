@@ -1,11 +1,16 @@
 // Reads scripts of builds from standard input, runs each from an empty store, and prints the results and the nodes.
 //
 // A script: the store's size (2 bytes), the number of instructions (2 bytes), then the instructions (crate script).
+#![tactic(auto)]
+
 ghost use Rattle.std.specs.Prelude.{◌≤◌, length};
 
 use format::bytes::u16_at;
-use libc::{STDIN_FILENO, STDOUT_FILENO};
 use script::End;
+
+const STDIN_FILENO: i32 = 0;
+
+const STDOUT_FILENO: i32 = 1;
 
 fn print(n: u32) {
     io::print_decimal(STDOUT_FILENO, n as u64);

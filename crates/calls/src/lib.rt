@@ -1,5 +1,6 @@
 // What the calls of include/reach.h answer, in C's numbers and structs (specs/Calls.antt), and the functions that do their work over the
 // parts of the lent memory that are used.
+#![tactic(auto)]
 
 pub mod questioning;
 pub mod stepping;
@@ -8,7 +9,7 @@ use state::State;
 
 // reach_counts
 #[repr(C)]
-#[derive(Drop)]
+#[derive(Clone, Copy)]
 pub struct Counts {
     pub refusal: u32,
     pub detail: u32,
@@ -19,7 +20,7 @@ pub struct Counts {
 
 // reach_step
 #[repr(C)]
-#[derive(Drop)]
+#[derive(Clone, Copy)]
 pub struct Step {
     pub refusal: u32,
     pub detail: u32,
@@ -28,7 +29,7 @@ pub struct Step {
 
 // reach_ran
 #[repr(C)]
-#[derive(Drop)]
+#[derive(Clone, Copy)]
 pub struct Ran {
     pub refusal: u32,
     pub detail: u32,
@@ -39,7 +40,7 @@ pub struct Ran {
 
 // reach_weighed
 #[repr(C)]
-#[derive(Drop)]
+#[derive(Clone, Copy)]
 pub struct Weighed {
     pub refusal: u32,
     pub detail: u32,
@@ -48,7 +49,7 @@ pub struct Weighed {
 
 // reach_shared
 #[repr(C)]
-#[derive(Drop)]
+#[derive(Clone, Copy)]
 pub struct Shared {
     pub refusal: u32,
     pub detail: u32,
@@ -58,7 +59,7 @@ pub struct Shared {
 
 // reach_listed
 #[repr(C)]
-#[derive(Drop)]
+#[derive(Clone, Copy)]
 pub struct Listed {
     pub refusal: u32,
     pub detail: u32,

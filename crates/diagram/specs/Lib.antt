@@ -1,3 +1,3 @@
 pub mod Diagram
 pub mod Listing
-pub mod Laws
+pub mod Lower

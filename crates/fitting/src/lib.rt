@@ -1,4 +1,6 @@
 // "Fit together": the test that every later call makes first (specs/Fit.antt).
+#![tactic(auto)]
+
 ghost use Rattle.std.specs.Prelude.{◌||◌, ◌≡◌, ◌≤◌, min, eqb, length, drop, take};
 ghost use Rattle.meaning.specs.Lists.{all};
 ghost use Rattle.format.specs.File.{decode};

@@ -2,13 +2,15 @@
 //
 // specs/File.antt says what the bytes mean, specs/Refusals.antt which refusal a file gets, and specs/Walk.antt what the
 // walk finds. No public function asks anything of its caller, but for the reads of `bytes`, which ask for a place inside.
+#![tactic(auto)]
+
 pub mod bytes;
 pub mod numbers;
 pub mod validate;
 pub mod walk;
 
 // Why a file is refused. specs/Refusals.antt gives document 01's number and detail for each.
-#[derive(Drop)]
+#[derive(Clone, Copy)]
 pub enum Refusal {
     Length,
     Contents,
@@ -24,7 +26,7 @@ pub enum Refusal {
 }
 
 // What the check of a file says: accepted, with F, D, R and the total, or refused.
-#[derive(Drop)]
+#[derive(Clone, Copy)]
 pub enum Verdict {
     Accepted {
         facts: u32,

@@ -1,6 +1,6 @@
 // Document 01's number and detail for each refusal of a file.
 ghost use Rattle.std.specs.Prelude.{◌≡◌};
-ghost use Rattle.format.specs.Refusals.{number as number_of, detail as detailOf};
+ghost use Rattle.format.specs.Refusals.{number as number_of, detail as detail_of};
 
 use crate::Refusal;
 
@@ -23,7 +23,7 @@ pub fn number(why: Refusal) -> u32
 }
 
 pub fn detail(why: Refusal) -> u32
-    ensures { result ≡ detailOf why }
+    ensures { result ≡ detail_of why }
 {
     match why {
         Refusal::Weightless(fact) => fact,

@@ -1,28 +1,49 @@
 // The check of a file: the tests of document 01 in its order, of which the first that fails decides.
 ghost use Rattle.std.specs.Prelude.{◌≡◌, ◌+◌, ◌*◌, ◌<◌, ◌≤◌, length};
 ghost use Rattle.format.specs.File.{F, D, R};
-ghost use Rattle.format.specs.Refusals.{verdict, verdict_by, contents_tests, counts_tests, offset_tests, fact_test, layer_test, rules_tests, each};
-ghost use Rattle.format.specs.Checked.{Answers, Framed, Weighted, Counted, Totalled, LayerOf, HeaderAsked, HeaderRead, LiteralAsked, LiteralRead};
+ghost use Rattle.format.specs.Refusals.{
+  verdict,
+  verdict_by,
+  contents_tests,
+  counts_tests,
+  offset_tests,
+  fact_test,
+  layer_test,
+  rules_tests,
+  each,
+};
+ghost use Rattle.format.specs.Checked.{
+  Answers,
+  Framed,
+  Weighted,
+  Counted,
+  Totalled,
+  LayerOf,
+  HeaderAsked,
+  HeaderRead,
+  LiteralAsked,
+  LiteralRead,
+};
 
 use crate::bytes::{u8_at, u16_at, u32_at};
 use crate::{Refusal, Verdict};
 
 // What some of the tests find.
-#[derive(Drop)]
+#[derive(Clone, Copy)]
 enum Found {
     Fault(Refusal),
     Nothing,
 }
 
 // The total, where it fits.
-#[derive(Drop)]
+#[derive(Clone, Copy)]
 enum Sum {
     Total(u64),
     TooLarge,
 }
 
 // What stands at a rule's place: a rule, with its head's layer and its end, or a fault.
-#[derive(Drop)]
+#[derive(Clone, Copy)]
 enum Head {
     Rule { top: usize, end: usize },
     Bad(Refusal),

@@ -10,7 +10,7 @@ use crate::bytes::u16_at;
 
 // What stands at a place of a file: a rule, with its head, where its body starts, and where it ends and the next rule
 // starts; or no whole rule.
-#[derive(Drop)]
+#[derive(Clone, Copy)]
 pub enum Step {
     Rule {
         head: usize,
@@ -21,7 +21,7 @@ pub enum Step {
 }
 
 // What stands at a place of a body: a literal as in the file, 2 × atom, plus 1 if negated; or nothing.
-#[derive(Drop)]
+#[derive(Clone, Copy)]
 pub enum Entry {
     Literal(usize),
     End,

@@ -1,4 +1,6 @@
 // Layers worked out from the rules alone (document 02, L4): the smallest, or a chain of rules that leaves none.
+#![tactic(auto)]
+
 mod rising;
 
 ghost use Rattle.std.specs.Prelude.{◌≤◌, length, ◌≡◌};
@@ -10,7 +12,7 @@ use format::bytes::u16_at;
 
 // The layers were written; or the lowest atom whose layer is over 255; or the lowest atom on a chain, and the number of rules of a chain
 // through it, which was written.
-#[derive(Drop)]
+#[derive(Clone, Copy)]
 pub enum Found {
     Layers,
     High(u32),
@@ -34,7 +36,7 @@ pub fn layers(file: &[u8], out: &mut [u8]) -> Found
 }
 
 // The call's answer: a refusal with its detail, or none, and how many bytes were written.
-#[derive(Drop)]
+#[derive(Clone, Copy)]
 pub struct Told {
     pub refusal: u32,
     pub detail: u32,

@@ -1,5 +1,9 @@
 // Reads one file from standard input and prints the smallest layer of every derived atom, or why there are none (crate layers_text).
-use libc::{STDIN_FILENO, STDOUT_FILENO};
+#![tactic(auto)]
+
+const STDIN_FILENO: i32 = 0;
+
+const STDOUT_FILENO: i32 = 1;
 
 // Room for the input: one byte more than the largest file, so that a longer input is refused without reading it all. A function of its own,
 // so that the proof of `main` does not compute the array.

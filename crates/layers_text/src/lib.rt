@@ -1,4 +1,6 @@
 // The text that the program `layers` prints for a file: any bytes at all (specs/LayersText.antt).
+#![tactic(auto)]
+
 ghost use Rattle.std.specs.Prelude.{◌+◌, ◌≤◌, length};
 ghost use Rattle.text.specs.Wrote.{Wrote};
 ghost use Rattle.layers_text.specs.LayersText.{rule_line, layer_lines, rule_lines, chain_in, LayersPrinted};

@@ -1,3 +1,2 @@
 pub mod Lists
 pub mod Meaning
-pub mod Laws

@@ -1,4 +1,3 @@
 pub mod Questions
 pub mod Weights
 pub mod Given
-pub mod Laws

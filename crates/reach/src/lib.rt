@@ -2,6 +2,7 @@
 //
 // Each call tests what 01 says it tests, in 01's order, hands the parts of the lent memory that are used to the crate that does the work,
 // and gives its answer in C's numbers (calls/specs/Calls.antt).
+#![tactic(auto)]
 
 ghost use Rattle.std.specs.Prelude.{◌≡◌};
 ghost use Rattle.state.specs.Hand.{lending, handing};

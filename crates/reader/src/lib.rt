@@ -2,14 +2,16 @@
 //
 // It holds the file and a place. Each call over it is thin: it takes the struct apart and leaves the work to `format::walk` and to
 // the functions on plain values here. `rule` has plain parameters, so its callers know nothing of a reader. Of an accepted file the
-// rules are those of its program, in order, and then End (specs/Laws/Rules.antt); of any other bytes they are what the walk finds.
+// rules are those of its program, in order, and then End (proofs/Laws/Rules.antt); of any other bytes they are what the walk finds.
+#![tactic(auto)]
+
 ghost use Rattle.std.specs.Prelude.{◌≡◌, ◌<◌};
 ghost use Rattle.format.specs.Walk.{first_at, step_at};
 ghost use Rattle.reader.specs.Read.{past, rest, body_in, onward, place_of};
 
 use format::walk::{Step, first, part, rule_at};
 
-#[derive(Drop)]
+#[derive(Clone, Copy)]
 pub struct Reader<'a> {
     pub file: &'a [u8],
     pub at: usize,

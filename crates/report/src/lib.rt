@@ -1,4 +1,6 @@
 // The text that the reading program prints for a file: any bytes at all (specs/Report.antt).
+#![tactic(auto)]
+
 mod answer;
 mod lines;
 

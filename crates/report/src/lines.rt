@@ -1,6 +1,6 @@
 // The lines that only this text has, at the output's start; each function answers the place behind what it wrote.
 ghost use Rattle.text.specs.Wrote.{Wrote};
-ghost use Rattle.report.specs.Report.{full_text, header as headerText};
+ghost use Rattle.report.specs.Report.{full_text, header as header_text};
 ghost use Rattle.report.specs.Asked.{Room, HeaderAsked};
 
 use text::{put, put_named};
@@ -15,7 +15,7 @@ pub fn full(out: &mut [u8], updates: u64) -> usize
 
 pub fn header(out: &mut [u8], facts: u64, derived: u64, total: u64, updates: u64) -> usize
     requires { HeaderAsked out.old facts derived }
-    ensures { Wrote out.old out.new 0 result (headerText facts derived total updates) }
+    ensures { Wrote out.old out.new 0 result (header_text facts derived total updates) }
 {
     let mut at = put_named(out, 0, b"atoms ", facts + derived);
     at = put_named(out, at, b" facts ", facts);

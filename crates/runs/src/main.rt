@@ -3,14 +3,19 @@
 //
 // A job: N (2 bytes), the number of calls (2 bytes), the file's length (4 bytes), the calls, the file. A call: what (1 byte: 0 run,
 // 1 update, else close) and its budget or atom (4 bytes).
+#![tactic(auto)]
+
 ghost use Rattle.std.specs.Prelude.{◌≤◌};
 ghost use Rattle.state.specs.Answers.{AtomAsked, LoadAsked};
 ghost use Rattle.runs.specs.Ready.{Ready};
 
 use format::Verdict;
 use format::bytes::{u8_at, u16_at, u32_at};
-use libc::{STDIN_FILENO, STDOUT_FILENO};
 use state::{Closed, How, State, Step};
+
+const STDIN_FILENO: i32 = 0;
+
+const STDOUT_FILENO: i32 = 1;
 
 fn print(n: u64) {
     io::print_decimal(STDOUT_FILENO, n);

@@ -2,6 +2,8 @@
 //
 // An instruction has 5 bytes: an operation, then two numbers of 2 bytes. 0 builds a fact; 1 the conjunction, 2 the
 // disjunction of two earlier results; 3 the negation of one. Its result is the next one.
+#![tactic(auto)]
+
 ghost use Rattle.std.specs.Prelude.{◌≡◌, ◌≤◌, ◌<◌, length};
 ghost use Rattle.script.specs.Script.{steps, is_valid};
 ghost use Rattle.script.specs.Calls.{Ran, StepAsked, StepDone};
@@ -10,7 +12,7 @@ use store::Built;
 
 // How a script ends: after its last instruction, at one that is not valid, or at one for whose result there is no room;
 // with the number of results and of nodes.
-#[derive(Drop)]
+#[derive(Clone, Copy)]
 pub enum End {
     Done(u32, u32),
     Bad(u32, u32),

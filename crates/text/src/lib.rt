@@ -1,4 +1,6 @@
 // Text into the output: each function writes at a place and answers the place behind what it wrote.
+#![tactic(auto)]
+
 ghost use Rattle.std.specs.Prelude.{◌+◌, ◌≤◌, [], length};
 ghost use Rattle.text.specs.Text.{pair_line, refused_text};
 ghost use Rattle.text.specs.Wrote.{Wrote, Named};

@@ -1,6 +1,10 @@
 // The reading program: reads one file from standard input and prints its counts, its total and every atom's weight, or why there are none
 // (crate report).
-use libc::{STDIN_FILENO, STDOUT_FILENO};
+#![tactic(auto)]
+
+const STDIN_FILENO: i32 = 0;
+
+const STDOUT_FILENO: i32 = 1;
 
 // Room for the input: one byte more than the largest file, so that a longer input is refused without reading it all. A function of its own,
 // so that the proof of `main` does not compute the array.

@@ -107,25 +107,26 @@ holds-whole {N} l m st =
     λ i. lending (w i) (p i)
 
 -- what fits together, by the test's answer b, has parts to lend on
-module _ (s nodes places : List ℕ) (state : State) {b : Bool} (t : b ≡ fit_together s (handing nodes places state)) (n : not b ≡ false) where
-  abbrev h : Hand
-  h = handing nodes places state
+module _ (s nodes places : List ℕ) (state : State) {b : Bool} (t : b ≡ fit_together s (handing nodes places state)) (n : not b ≡ false)
+  where
+    abbrev h : Hand
+    h = handing nodes places state
 
-  fits_whole : fit_together s h ≡ true
-  fits_whole = sym t ∙ not-false b n
+    fits_whole : fit_together s h ≡ true
+    fits_whole = sym t ∙ not-false b n
 
-  -- there are 544 places,
-  pub long-enough : 544 ≤ length places
-  long-enough = fits-long s h fits_whole
+    -- there are 544 places,
+    pub long-enough : 544 ≤ length places
+    long-enough = fits-long s h fits_whole
 
-  pub places-fit : 544 ≡ length (places_in places)
-  places-fit = places-size places long-enough
+    pub places-fit : 544 ≡ length (places_in places)
+    places-fit = places-size places long-enough
 
-  module _ {N : ℕ} (m : N ≡ room_in nodes) where
-    -- the parts fit together,
-    pub parts-fit : Fits s (take N nodes) (places_in places) state
-    parts-fit = rw (words_are nodes m) (fits-inner s h fits_whole)
+    module _ {N : ℕ} (m : N ≡ room_in nodes) where
+      -- the parts fit together,
+      pub parts-fit : Fits s (take N nodes) (places_in places) state
+      parts-fit = rw (words_are nodes m) (fits-inner s h fits_whole)
 
-    -- as the whole does
-    pub fit-part : fit_together s (handing (take N nodes) (places_in places) state) ≡ fit_together s h
-    fit-part = inner-fits parts-fit ∙ sym fits_whole
+      -- as the whole does
+      pub fit-part : fit_together s (handing (take N nodes) (places_in places) state) ≡ fit_together s h
+      fit-part = inner-fits parts-fit ∙ sym fits_whole

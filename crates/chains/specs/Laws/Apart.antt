@@ -5,8 +5,8 @@ use Rattle.std.proofs.Common.{arith, eqb→eq}
 use Rattle.std.proofs.Math.Decide.{dec_le}
 use Rattle.std.proofs.Math.Dec.{eqb_refl}
 use Rattle.meaning.specs.Lists.{any}
-use Rattle.meaning.specs.Laws.Tests.{T-or-left, T-or-right, any-elim}
-use Rattle.meaning.specs.Laws.Settle.{count, count-le, count-back}
+use Rattle.meaning.proofs.Laws.Tests.{T-or-left, T-or-right, any-elim}
+use Rattle.meaning.proofs.Laws.Settle.{count, count-le, count-back}
 
 -- no number of the list stands in it twice
 pub data Apart : List ℕ → Type 0 where

@@ -147,6 +147,7 @@ module _
       lowest-ends h = past q.some.0 q.some.1
         where
           past : (js : List ℕ) → Chain (decode s) js → ⊥
+          past [] c = elim c [ ]
           past (j ∷ js) c =
               let o : OnChain (decode s) (rule_of (decode s) j).head = record { first = j; others = js; chain = c; head = refl } in
               v.free (rule_of (decode s) j).head

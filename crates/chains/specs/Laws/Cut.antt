@@ -8,7 +8,7 @@ use mathlib.Core.List.{List, [], ◌∷◌, Memᴰ}
 use Rattle.std.proofs.Math.Decide.{ℕ_discrete}
 use Rattle.meaning.specs.Lists.{upto}
 use Rattle.meaning.specs.Meaning.{Literal, Program, atoms, Known}
-use Rattle.meaning.specs.Laws.Tests.{length-upto, mem-upto}
+use Rattle.meaning.proofs.Laws.Tests.{length-upto, mem-upto}
 use Rattle.chains.specs.Layering.{rule_of, Links, Chain}
 use Rattle.chains.specs.Laws.Legal.{rule-in}
 use Rattle.chains.specs.Laws.Walk.{Walk}
@@ -97,6 +97,7 @@ before i e l m c = record {
 
 -- a walk with no atom twice comes by each atom that it steps from
 comes : {P : Program} {a x w : ℕ} {on : List ℕ} → Walk P x on w → Apart on → Memᴰ a on → Comes P a x w
+comes (Walk.stay _ _) _ m = elim m [ ]
 comes (Walk.step j h e l i s) (Apart.more n d) (Memᴰ.head q) = here q (Walk.step j h e l i s) (Apart.more n d)
 comes (Walk.step j h e l i s) (Apart.more n d) (Memᴰ.tail m) = before j e l (record { rule = h; held = i }) (comes s d m)
 
@@ -142,6 +143,7 @@ module _ {P : Program} where
 
   -- a walk steps from derived atoms
   walk-derived : Known P → {a b w : ℕ} {on : List ℕ} → Walk P a on w → Memᴰ b on → (length P.facts ≤ b) × (b < atoms P)
+  walk-derived known (Walk.stay _ _) m = elim m [ ]
   walk-derived known (Walk.step j h e l i s) (Memᴰ.head q) = rw (q, ← e) (known.heads (rule_of P j) (rule-in P j h))
   walk-derived known (Walk.step j h e l i s) (Memᴰ.tail m) = walk-derived known s m
 

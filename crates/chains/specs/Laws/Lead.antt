@@ -3,7 +3,7 @@ use Rattle.std.specs.Prelude.{◌≡◌, Bool, true, false, cond, List, ℕ, ◌
 use Rattle.std.proofs.Common.{sym, arith}
 use Rattle.std.proofs.Math.Path.{ap}
 use Rattle.meaning.specs.Lists.{upto}
-use Rattle.meaning.specs.Laws.Tests.{get_or-upto}
+use Rattle.meaning.proofs.Laws.Tests.{get_or-upto}
 use Rattle.meaning.specs.Meaning.{Literal}
 use Rattle.format.specs.Bytes.{u16}
 use Rattle.format.specs.File.{F, D, R, start_of, literal, literal_at, rule_at, decode}

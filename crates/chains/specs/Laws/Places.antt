@@ -9,7 +9,7 @@ use Rattle.std.proofs.Math.Decide.{ℕ_discrete}
 use Rattle.std.proofs.Math.ListN.{get_or, length-set}
 use Rattle.std.proofs.Math.Seq.{get_or-set_same, get_or-set_other}
 use Rattle.meaning.specs.Lists.{upto}
-use Rattle.meaning.specs.Laws.Tests.{length-upto, mem-upto, mem-of-upto}
+use Rattle.meaning.proofs.Laws.Tests.{length-upto, mem-upto, mem-of-upto}
 use Rattle.format.specs.File.{D}
 use Rattle.chains.specs.Calls.{Step, Trail}
 use Rattle.chains.specs.Searching.{Tables, Grown}

@@ -3,7 +3,7 @@ use Rattle.std.specs.Prelude.{◌≡◌, List, ℕ, ◌+◌, ◌*◌, ◌/◌, �
 use Rattle.std.proofs.Common.{sym, ◌∙◌, arith}
 use Rattle.std.proofs.Math.Path.{ap}
 use Rattle.std.proofs.Math.Decide.{dec_lt, ℕ_discrete}
-use Rattle.meaning.specs.Laws.Tests.{mem-upto, mem-of-upto}
+use Rattle.meaning.proofs.Laws.Tests.{mem-upto, mem-of-upto}
 use Rattle.format.specs.Bytes.{u16}
 use Rattle.format.specs.File.{F, R, start_of, literal, literal_at}
 use Rattle.index.specs.Index.{head_at, Next}

@@ -3,7 +3,7 @@ use Rattle.std.specs.Prelude.{◌≡◌, refl, List, [], ◌∷◌, ℕ, zero, s
 use Rattle.std.proofs.Common.{subst, ◌∙◌, arith, ltb→lt}
 use Rattle.meaning.specs.Lists.{all}
 use Rattle.meaning.specs.Meaning.{total, layer_of}
-use Rattle.meaning.specs.Laws.Tests.{T-and-left, T-and-right}
+use Rattle.meaning.proofs.Laws.Tests.{T-and-left, T-and-right}
 use Rattle.format.specs.Bytes.{Bytes, u16, u32}
 use Rattle.format.specs.File.{decode}
 use Rattle.format.specs.Refusals.{verdict}

@@ -1,9 +1,25 @@
 -- Memory that holds a store: what a call leaves in hand, and that what fits together is such memory.
 use Rattle.std.specs.Prelude.{◌≡◌, refl, true, List, [], ◌∷◌, ◌++◌, map, ℕ, ◌-◌, ◌≤◌, min, T, leb, length, take, drop, replicate}
-use Rattle.std.proofs.Common.{sym, ap, subst, ◌∙◌, append-nil, arith, le→leb, length-append, length-drop, length-take, drop_of_length-le, take-append-drop, take_all, take_at, drop_at}
+use Rattle.std.proofs.Common.{
+  sym,
+  ap,
+  subst,
+  ◌∙◌,
+  append-nil,
+  arith,
+  le→leb,
+  length-append,
+  length-drop,
+  length-take,
+  drop_of_length-le,
+  take-append-drop,
+  take_all,
+  take_at,
+  drop_at,
+}
 use Rattle.std.proofs.Math.Decide.{dec_lt}
 use Rattle.std.proofs.lemmas.List.{length-map, length-replicate}
-use Rattle.meaning.specs.Laws.Tests.{T_true}
+use Rattle.meaning.proofs.Laws.Tests.{T_true}
 use Rattle.format.specs.File.{decode}
 use Rattle.format.specs.Refusals.{verdict, passes}
 use Rattle.format.specs.Passed.{Passed}
@@ -157,7 +173,10 @@ in-hand {s} {h} fit =
     let places : h.lent.places ≡ (store h).places ++ drop 544 h.lent.places = sym (take-append-drop 544 h.lent.places) in
     record {
       held = record { passed = f.passed; fit = f.fit; used = omega (arith, f.used) };
-      is = λ i. record { lent = record { nodes = nodes i; places = places i }; state = record { layer = h.state.layer; nodes = sym size i } };
+      is = λ i. record {
+        lent = record { nodes = nodes i; places = places i };
+        state = record { layer = h.state.layer; nodes = sym size i };
+      };
       long = fits-long s h fit;
     }
 

@@ -6,7 +6,7 @@ use Rattle.std.proofs.Math.Seq.{take-append_seam}
 use Rattle.meaning.specs.Meaning.{Program, Layered, atoms, holds}
 use Rattle.format.specs.File.{decode}
 use Rattle.diagram.specs.Listing.{listing}
-use Rattle.diagram.specs.Laws.Function.{of-only}
+use Rattle.diagram.proofs.Laws.Function.{of-only}
 use Rattle.update.specs.Update.{Store, diagram_at}
 use Rattle.update.specs.Laws.Held.{held-good}
 use Rattle.rounds.specs.Layers.{finished_layer}
@@ -14,7 +14,7 @@ use Rattle.rounds.specs.Reached as stores
 use Rattle.rounds.specs.Laws.Made.{fit-held}
 use Rattle.rounds.specs.Laws.Reached.{reached-standing, finished-exact}
 use Rattle.questions.specs.Questions.{listed}
-use Rattle.questions.specs.Laws.Listings.{listing-holds, listings-same}
+use Rattle.questions.proofs.Laws.Listings.{listing-holds, listings-same}
 use Rattle.state.specs.Hand.{Hand, store}
 use Rattle.calls.specs.Refusals.{first_of, listing_tests}
 use Rattle.calls.specs.Calls.{Layering, listing_host, ours}

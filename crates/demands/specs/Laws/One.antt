@@ -26,7 +26,27 @@ use Rattle.calls.specs.Refusals.{
   listing_tests,
   load_tests,
 }
-use Rattle.calls.specs.Calls.{Stepped, Ranned, Weighing, Sharing, Listing, Layering, LayersAnswer, step_refused, run_done, counts, cleared, evidence_weight, both_weight, read_host, run_host, weight_host, given_host, listing_host, ours}
+use Rattle.calls.specs.Calls.{
+  Stepped,
+  Ranned,
+  Weighing,
+  Sharing,
+  Listing,
+  Layering,
+  LayersAnswer,
+  step_refused,
+  run_done,
+  counts,
+  cleared,
+  evidence_weight,
+  both_weight,
+  read_host,
+  run_host,
+  weight_host,
+  given_host,
+  listing_host,
+  ours,
+}
 use Rattle.demands.specs.Demands.{Refuses, Reads, Steps, Runs, Weighs, Shares, Lists, Answers}
 use Rattle.demands.specs.Laws.Tables.{Numbered, Went, stopped, passed, went}
 use Rattle.demands.specs.Laws.Ways.{
@@ -137,7 +157,16 @@ module _ (s : List ℕ) (h : Hand) where
     pub ours-given : Shares s h a evidence numbers (given_host s h a evidence numbers)
     ours-given = go (went given_refused shared given_table (
       some (omega arith),
-      (some (omega arith), (some (omega arith), (some (omega arith), (some (omega arith), (some (omega arith), (some (omega arith), tt)))))),
+      (
+        some (omega arith),
+        (
+          some (omega arith),
+          (
+            some (omega arith),
+            (some (omega arith), (some (omega arith), (some (omega arith), tt))),
+          ),
+        ),
+      ),
     ))
       where
         go : Went given_table given_refused shared → Shares s h a evidence numbers (given_host s h a evidence numbers)
@@ -190,7 +219,8 @@ module _ (s : List ℕ) (h : Hand) where
 
 -- ---- all calls
 
-pub ours-answers : (layers : List ℕ → List ℕ → Layering) → ((s out : List ℕ) → Bytes s → LayersAnswer s out (layers s out)) → Answers (ours layers)
+pub ours-answers : (layers : List ℕ → List ℕ → Layering) → ((s out : List ℕ) → Bytes s → LayersAnswer s out (layers s out)) →
+    Answers (ours layers)
 ours-answers layers told = record {
   read = ours-read;
   load = λ s l. steps (load_tests s l) (load-numbered s l) _ _ refl refl;

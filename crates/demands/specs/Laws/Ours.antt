@@ -14,7 +14,8 @@ use Rattle.demands.specs.Laws.Two.Weights.{ours-weighed}
 use Rattle.demands.specs.Laws.Two.Shares.{ours-shared}
 use Rattle.demands.specs.Laws.Listings.{ours-canonical}
 
-pub demands-ours : (layers : List ℕ → List ℕ → Layering) → ((s out : List ℕ) → Bytes s → LayersAnswer s out (layers s out)) → Demands (ours layers)
+pub demands-ours : (layers : List ℕ → List ℕ → Layering) → ((s out : List ℕ) → Bytes s → LayersAnswer s out (layers s out)) →
+    Demands (ours layers)
 demands-ours layers told =
     let answers : Answers (ours layers) = ours-answers layers told in
     record {

@@ -1,5 +1,5 @@
--- No stand-in meets the demands ("Try these stand-ins against demands 2 and 3 together"): those of document 01 fall to demands 2 and 3, each
--- on file S but for the invented count, which falls on every run where it is not ours; calls that are quiet until the finish fall to
+-- No stand-in meets the demands ("Try these stand-ins against demands 2 and 3 together"): those of document 01 fall to demands 2 and 3,
+-- each on file S but for the invented count, which falls on every run where it is not ours; calls that are quiet until the finish fall to
 -- demand 1.
 use Rattle.std.proofs.Math.Path.{◌≡◌, refl, subst}
 use Rattle.std.proofs.Common.{sym, ◌∙◌, eq-eqb}
@@ -93,11 +93,13 @@ module _ (layers : List ℕ → List ℕ → Layering) where
 
   -- two closings finish the run,
   shut-1 : back ((idle layers).close file_s loaded_s) ≡ untouched 2
-  unfolding answering check_tests fit_together decode u16 u32 total layer_of is_full sum_builds after_update atoms_from lowest_above combine negate eval
+  unfolding answering check_tests fit_together decode u16 u32 total layer_of is_full sum_builds after_update atoms_from lowest_above
+      combine negate eval
   shut-1 = refl
 
   shut-2 : back ((idle layers).close file_s (untouched 2)) ≡ untouched 65535
-  unfolding answering check_tests fit_together decode u16 u32 total layer_of is_full sum_builds after_update atoms_from lowest_above combine negate eval
+  unfolding answering check_tests fit_together decode u16 u32 total layer_of is_full sum_builds after_update atoms_from lowest_above
+      combine negate eval
   shut-2 = refl
 
   -- and atom 2 weighs 0 and not 5

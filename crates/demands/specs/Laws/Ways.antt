@@ -9,7 +9,7 @@ use Rattle.std.proofs.Math.Dec.{ltb}
 use Rattle.std.proofs.Math.ListN.{length}
 use borrow.Author.Tests.{not-false, lt-leb, leb-false, ltb-false, eq-eqb, ne_eqb, eqb-true, eqb-false}
 use Rattle.meaning.specs.Meaning.{Program, atoms, layer_of}
-use Rattle.meaning.specs.Laws.Tests.{length-upto}
+use Rattle.meaning.proofs.Laws.Tests.{length-upto}
 use Rattle.format.specs.File.{decode}
 use Rattle.format.specs.Refusals.{verdict, passes}
 use Rattle.format.specs.Passed.{Passed}
@@ -212,9 +212,11 @@ module _ (s : List ℕ) (h : Hand) where
   -- it is refused, or done
   pub close-ways : Refusing h (close_host s h) ⊎ Shutting
   close-ways =
-      go (went (step_refused h) (going (next_layer P k)) (later s h (close_tests s h)) (later-numbered s h (close_tests s h) (close-numbered s h)))
+      go (went (step_refused h) (going (next_layer P k)) (later s h (close_tests s h))
+      (later-numbered s h (close_tests s h) (close-numbered s h)))
     where
-      told : fit_together s h ≡ true → (k ≡ finished_layer → ⊥) → close_host s h ≡ going (next_layer P k) → (c : Closing) → close P N k (store h) ≡ c →
+      told : fit_together s h ≡ true → (k ≡ finished_layer → ⊥) → close_host s h ≡ going (next_layer P k) → (c : Closing) →
+          close P N k (store h) ≡ c →
           Shutting
       told f n u (closed j) e =
           record { fits = f; at_work = n; step = e ∙ ap closed (close-only P N k (store h) e).next; is = u }
@@ -248,5 +250,6 @@ module _ (s : List ℕ) (h : Hand) where
         go : (b : Bool) → fit_together s h ≡ b → (run_host s h budget).answer.refusal ≡ 0 → fit_together s h ≡ true
         go true e z = e
         go false e z =
-            let x : ◌≡◌ {A = ℕ} 36 0 = ap (λ u. u.answer.refusal) (gives {refuse = refuse_run} {answer = done-run} (due (ap not e) refl)) ∙ z in
+            let x : ◌≡◌ {A = ℕ} 36 0 = ap (λ u. u.answer.refusal) (gives {refuse = refuse_run} {answer = done-run} (due (ap not e) refl))
+            ∙ z in
             absurd (omega arith)

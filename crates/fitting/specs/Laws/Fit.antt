@@ -1,13 +1,29 @@
 -- The test of "fit together" says exactly what it should: what passes fits, as the engine asks it, and what fits passes.
 -- Each part of the test is read as a statement by the lemmas for tests; the parts are then put together.
 use Rattle.std.specs.Prelude.{◌≡◌, refl, Bool, true, ◌||◌, List, [], ◌∷◌, ℕ, ◌+◌, ◌-◌, ◌≤◌, ◌<◌, eqb, leb, get_or, take, drop, replicate}
-use Rattle.std.proofs.Common.{sym, ap, ◌∙◌, inl, inr, arith, eqb→eq, length-take, length-drop, length-take-le, take_all, get_or-take, get_or-drop, ext_get_or, le-leb}
+use Rattle.std.proofs.Common.{
+  sym,
+  ap,
+  ◌∙◌,
+  inl,
+  inr,
+  arith,
+  eqb→eq,
+  length-take,
+  length-drop,
+  length-take-le,
+  take_all,
+  get_or-take,
+  get_or-drop,
+  ext_get_or,
+  le-leb,
+}
 use Rattle.std.proofs.Math.Dec.{T, leb→le, le→leb}
 use Rattle.std.proofs.Math.ListN.{length}
 use Rattle.std.proofs.lemmas.List.{length-replicate, get_or-replicate}
 use Rattle.meaning.specs.Lists.{all, upto}
 use Rattle.meaning.specs.Meaning.{Program, atoms}
-use Rattle.meaning.specs.Laws.Tests.{T-or-left, T-or-right, T-or-cases, T_true, eqb_of, get_or-upto, length-upto}
+use Rattle.meaning.proofs.Laws.Tests.{T-or-left, T-or-right, T-or-cases, T_true, eqb_of, get_or-upto, length-upto}
 use Rattle.format.specs.File.{decode}
 use Rattle.format.specs.Refusals.{verdict, passes}
 use Rattle.format.specs.declared.Verdict.{Verdict}
@@ -66,7 +82,8 @@ module _ (P : Program) (nodes places : List ℕ) (layer count : ℕ) where
   abbrev tests : List Bool
   tests =
       leb count (length nodes) ∷ as_loaded F (nodes_in nodes count) places ∷ rules ∷ all (eqb 0) (drop count nodes) ∷
-      all (eqb 0) (drop (atoms P) places) ∷ names_in_use count (take (atoms P) places) ∷ (eqb layer finished_layer || has_atoms P layer) ∷ []
+      all (eqb 0) (drop (atoms P) places) ∷ names_in_use count (take (atoms P) places) ∷ (eqb layer finished_layer || has_atoms P layer) ∷
+      []
 
   -- the test passes where its parts do,
   pub parts_all : Parts P nodes places layer count → T (store_fits P nodes places layer count)

@@ -9,7 +9,7 @@ use Rattle.std.proofs.Math.ListN.{length}
 use borrow.Author.Tests.{le-leb, not-true, not-false}
 use Rattle.meaning.specs.Lists.{all}
 use Rattle.meaning.specs.Meaning.{atoms, layer_of}
-use Rattle.meaning.specs.Laws.Tests.{T-or-left, T-or-right, T-or-cases, T_true, T_false, eqb_of}
+use Rattle.meaning.proofs.Laws.Tests.{T-or-left, T-or-right, T-or-cases, T_true, T_false, eqb_of}
 use Rattle.format.specs.File.{decode}
 use Rattle.format.specs.Refusals.{verdict}
 use Rattle.format.specs.declared.Verdict.{Verdict}
@@ -75,7 +75,8 @@ module _ (nodes places : List ℕ) (facts count : ℕ) (le : facts ≤ count) wh
   }))
 
   -- or a word is not,
-  pub loaded-no-node : (i : ℕ) → i < facts → (get_or nodes i 0 ≡ i * 67108864 + 1 → ⊥) → false ≡ as_loaded facts (nodes_in nodes count) places
+  pub loaded-no-node : (i : ℕ) → i < facts → (get_or nodes i 0 ≡ i * 67108864 + 1 → ⊥) →
+      false ≡ as_loaded facts (nodes_in nodes count) places
   loaded-no-node i lt n = no-is (λ t.
       let q = (loaded-each facts (nodes_in nodes count) places t).nodes i lt in
       let e : get_or nodes i 0 ≡ pack (fact_node i) =

@@ -9,7 +9,7 @@ use Rattle.std.proofs.Math.Decide.{dec_lt}
 use Rattle.std.proofs.Math.Dec.{T, eqb, T_not, not_T, ltb→lt, lt→ltb, eqb→eq}
 use Rattle.std.proofs.Math.ListN.{length, get_or-eq_default}
 use Rattle.meaning.specs.Lists.{any, all, upto}
-use Rattle.meaning.specs.Laws.Tests.{
+use Rattle.meaning.proofs.Laws.Tests.{
   T_and,
   T-and-left,
   T-and-right,

@@ -5,11 +5,28 @@ use Rattle.std.proofs.Common.{sym, ◌∙◌, arith}
 use mathlib.Core.List.{List, [], ◌∷◌, Memᴰ}
 use Rattle.std.proofs.Math.ListN.{get_or-eq_default}
 use borrow.Author.Tests.{ltb-true, ltb-false, leb-false, eqb-true, eqb-false, not-false}
-use Rattle.meaning.specs.Laws.Tests.{length-upto, get_or-upto, mem-of-upto}
+use Rattle.meaning.proofs.Laws.Tests.{length-upto, get_or-upto, mem-of-upto}
 use Rattle.meaning.specs.Meaning.{Fact, Literal, Rule, Program, Layered, Known, layer_of, total}
 use Rattle.format.specs.Bytes.{Bytes, byte, u16}
 use Rattle.format.specs.File.{F, D, R, fact_at, layers_at, rules_at, start_of, literal_at, rule_at, decode}
-use Rattle.format.specs.Refusals.{Test, length_tests, contents_tests, counts_tests, offset_tests, fact_test, total_tests, layer_test, breaks, literal_tests, head_tests, each, rule_tests, file_tests, verdict, verdict_by}
+use Rattle.format.specs.Refusals.{
+  Test,
+  length_tests,
+  contents_tests,
+  counts_tests,
+  offset_tests,
+  fact_test,
+  total_tests,
+  layer_test,
+  breaks,
+  literal_tests,
+  head_tests,
+  each,
+  rule_tests,
+  file_tests,
+  verdict,
+  verdict_by,
+}
 use Rattle.format.specs.Checked.{Answers}
 use Rattle.format.specs.Passed.{RightContents, PassedRule, PassedBy, Passed, Formed}
 use Rattle.format.specs.Legal.{Legal}

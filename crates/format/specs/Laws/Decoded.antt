@@ -6,7 +6,7 @@ use Rattle.std.proofs.Math.Bool.{cond}
 use Rattle.std.proofs.Math.ListN.{length, get_or}
 use mir.Val.{bool_byte}
 use Rattle.meaning.specs.Meaning.{Fact, layer_of, atoms}
-use Rattle.meaning.specs.Laws.Tests.{get_or-upto, length-upto}
+use Rattle.meaning.proofs.Laws.Tests.{get_or-upto, length-upto}
 use Rattle.format.specs.Bytes.{byte}
 use Rattle.format.specs.Checked.{LayerOf}
 use Rattle.format.specs.File.{F, D, R, fact_at, layers_at, start_of, rule_at, decode}

@@ -6,7 +6,7 @@ use mathlib.Core.List.{List, Memᴰ}
 use Prim.Native.Nat.{ℕ, zero, suc, ◌+◌, ◌≤◌, ◌<◌}
 use Rattle.std.proofs.Math.ListN.{length}
 use Rattle.std.proofs.lemmas.Bool.{lt-leb}
-use Rattle.meaning.specs.Laws.Tests.{length-upto, get_or-upto, mem-upto}
+use Rattle.meaning.proofs.Laws.Tests.{length-upto, get_or-upto, mem-upto}
 use Rattle.meaning.specs.Meaning.{Literal, Rule, Program, layer_of, total, atoms}
 use Rattle.format.specs.Bytes.{byte, u16}
 use Rattle.format.specs.File.{F, D, R, fact_at, layers_at, rules_at, start_of, literal_at, rule_at, decode}
@@ -39,7 +39,8 @@ some-positive (suc m) n h = ap (λ b. b && eqb n 0) (positive {n = suc m} (omega
 
 rule-passes :
     (layered : Bool) (s : List ℕ) (j : ℕ) → PassedRule s j →
-    ((i : ℕ) → i < u16 s (start_of s j + 2) → (layered && breaks (decode s) (u16 s (start_of s j)) (literal_at s (start_of s j) i)) ≡ false) →
+    ((i : ℕ) → i < u16 s (start_of s j + 2) → (layered && breaks (decode s) (u16 s (start_of s j)) (literal_at s (start_of s j) i)) ≡
+    false) →
     Answers (rule_tests layered s j) Nothing
 unfolding rule_tests start_of
 rule-passes layered s j p keeps =

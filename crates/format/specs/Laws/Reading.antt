@@ -8,7 +8,7 @@ use native.Mathlib.Omega.{arith}
 use Rattle.std.proofs.Math.Nat.{add-zero}
 use Rattle.std.proofs.Math.ListN.{length-append, get_or-append}
 use Rattle.meaning.specs.Lists.{upto}
-use Rattle.meaning.specs.Laws.Tests.{length-upto, get_or-upto}
+use Rattle.meaning.proofs.Laws.Tests.{length-upto, get_or-upto}
 use Rattle.format.specs.Bytes.{byte, u16}
 use Rattle.format.specs.Encode.{two}
 

@@ -1,7 +1,47 @@
 -- The layers and the rules of a file as the check reads them: refusals 7 to 11.
 -- Each lemma says of one branch of the code which tests it has passed, or which fault it has met.
-use Rattle.std.specs.Prelude.{◌≡◌, refl, Bool, true, false, ◌&&◌, cond, ◌⊎◌, List, ◌++◌, ℕ, suc, ◌+◌, ◌*◌, ◌-◌, ◌/◌, ◌%◌, ◌≤◌, ◌<◌, eqb, leb, length, take, drop}
-use Rattle.std.proofs.Common.{sym, ◌∙◌, inl, inr, arith, add-one, length-take, length-drop, eq-eqb, ne_eqb, lt-ltb, le-ltb, le-leb, eqb-true}
+use Rattle.std.specs.Prelude.{
+  ◌≡◌,
+  refl,
+  Bool,
+  true,
+  false,
+  ◌&&◌,
+  cond,
+  ◌⊎◌,
+  List,
+  ◌++◌,
+  ℕ,
+  suc,
+  ◌+◌,
+  ◌*◌,
+  ◌-◌,
+  ◌/◌,
+  ◌%◌,
+  ◌≤◌,
+  ◌<◌,
+  eqb,
+  leb,
+  length,
+  take,
+  drop,
+}
+use Rattle.std.proofs.Common.{
+  sym,
+  ◌∙◌,
+  inl,
+  inr,
+  arith,
+  add-one,
+  length-take,
+  length-drop,
+  eq-eqb,
+  ne_eqb,
+  lt-ltb,
+  le-ltb,
+  le-leb,
+  eqb-true,
+}
 use Rattle.std.proofs.Math.Path.{ap, ap₂, subst}
 use Rattle.std.proofs.Math.Decide.{dec_lt}
 use Rattle.std.proofs.Math.Dec.{ltb, leb-suc-suc}
@@ -164,7 +204,8 @@ module _ (s : List ℕ) (j at : ℕ) where
   header_is h e = subst (HeaderRead s j at) e h
 
   pub literal_is :
-      {layered : Bool} {top x : ℕ} {r q : Found} → LiteralRead layered s j top x r → r ≡ q → top ≡ layer_of (decode s) (u16 s at) → (i : ℕ) →
+      {layered : Bool} {top x : ℕ} {r q : Found} → LiteralRead layered s j top x r → r ≡ q → top ≡ layer_of (decode s) (u16 s at) →
+      (i : ℕ) →
       literal x ≡ literal_at s at i → Answers (literal_tests layered (decode s) j (u16 s at) (literal_at s at i)) q
   literal_is {layered} {x} {q} h e t i l =
       subst (λ y. Answers (literal_tests layered (decode s) j (u16 s at) y) q) l

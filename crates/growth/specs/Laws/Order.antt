@@ -4,9 +4,9 @@ use Rattle.std.specs.Prelude.{◌≡◌, Bool, ℕ, T}
 use Rattle.std.proofs.Common.{◌∙◌}
 use mathlib.Core.List.{Memᴰ}
 use Rattle.meaning.specs.Meaning.{Rule, Program, is_true}
-use Rattle.meaning.specs.Laws.Tests.{T-same, all-intro, all-elim}
-use Rattle.meaning.specs.Laws.Least.{given_by, gives-it}
-use Rattle.meaning.specs.Laws.Same.{Match}
+use Rattle.meaning.proofs.Laws.Tests.{T-same, all-intro, all-elim}
+use Rattle.meaning.proofs.Laws.Least.{given_by, gives-it}
+use Rattle.meaning.proofs.Laws.Same.{Match}
 use Rattle.growth.specs.Growth.{value}
 
 -- Q has each rule of P, up to the order and the number of its literals

@@ -1,5 +1,27 @@
 -- What a body asks, worked out literal after literal.
-use Rattle.std.specs.Prelude.{◌≡◌, refl, Bool, true, false, cond, List, ℕ, zero, suc, ◌+◌, ◌*◌, ◌-◌, ◌/◌, ◌%◌, ◌≤◌, ◌<◌, max, eqb, length, get_or}
+use Rattle.std.specs.Prelude.{
+  ◌≡◌,
+  refl,
+  Bool,
+  true,
+  false,
+  cond,
+  List,
+  ℕ,
+  zero,
+  suc,
+  ◌+◌,
+  ◌*◌,
+  ◌-◌,
+  ◌/◌,
+  ◌%◌,
+  ◌≤◌,
+  ◌<◌,
+  max,
+  eqb,
+  length,
+  get_or,
+}
 use Rattle.std.proofs.Math.Path.{sym}
 use Rattle.std.proofs.Common.{ap, ◌∙◌, arith, add-one, eqb-true}
 use Rattle.std.proofs.Math.Nat.{max_comm, max-eq_left, max-eq_right}

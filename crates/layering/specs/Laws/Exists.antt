@@ -1,6 +1,6 @@
 -- A legal layering exists exactly when there is no chain; the passes then settle on the smallest one, after as many as there are derived
 -- atoms.
-use Rattle.std.specs.Prelude.{◌≡◌, ◌⊎◌, List, ◌∷◌, ℕ, zero, suc, ◌+◌, ◌<◌, length, get_or}
+use Rattle.std.specs.Prelude.{◌≡◌, ◌⊎◌, List, [], ◌∷◌, ℕ, zero, suc, ◌+◌, ◌<◌, length, get_or}
 use Rattle.std.proofs.Common.{sym, ◌∙◌, inl, inr, arith, ext_get_or}
 use Rattle.std.proofs.Math.Decide.{dec_lt}
 use Rattle.meaning.specs.Meaning.{Program, Known}
@@ -15,6 +15,7 @@ use Rattle.layering.specs.Laws.Walked.{passes-walked}
 
 -- a chain leaves no legal layering: going round it the layer would rise
 pub chain-none : (P : Program) (js : List ℕ) → Chain P js → (layer : ℕ → ℕ) → Legal P layer → ⊥
+chain-none P [] c layer w = elim c [ ]
 chain-none P (j ∷ js) c layer w = omega (arith, links-rise w c)
 
 -- where a pass changes nothing, the layers are the smallest

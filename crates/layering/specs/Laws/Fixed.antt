@@ -1,5 +1,5 @@
 -- What the call answers is fixed but for the chain: which of the answers is given, its numbers, and at every answer but 24 the output.
-use Rattle.std.specs.Prelude.{◌≡◌, refl, List, ◌∷◌, ◌++◌, ℕ, zero, suc, ◌+◌, ◌<◌, length, drop}
+use Rattle.std.specs.Prelude.{◌≡◌, refl, List, ◌∷◌, ◌++◌, ℕ, zero, suc, ◌+◌, ◌<◌, drop}
 use Rattle.std.proofs.Common.{sym, ap, ◌∙◌, arith}
 use Rattle.meaning.specs.Lists.{upto}
 use Rattle.meaning.specs.Meaning.{Program, atoms}

@@ -6,9 +6,9 @@ use mathlib.Core.List.{List, Memᴰ}
 use Prim.Native.Nat.{ℕ, zero, suc, ◌-◌, ◌≤◌, ◌<◌}
 use Rattle.meaning.specs.Lists.{all}
 use Rattle.meaning.specs.Meaning.{Literal, Rule, Program, Choice, has, layer_of, is_true, model, holds, Layered}
-use Rattle.meaning.specs.Laws.Tests.{T-same, all-mono}
-use Rattle.meaning.specs.Laws.Least.{Closed, derived, model-least}
-use Rattle.meaning.specs.Laws.Layers.{choice-fact, model-layer, holds_at, holds-fact}
+use Rattle.meaning.proofs.Laws.Tests.{T-same, all-mono}
+use Rattle.meaning.proofs.Laws.Least.{Closed, derived, model-least}
+use Rattle.meaning.proofs.Laws.Layers.{choice-fact, model-layer, holds_at, holds-fact}
 
 -- the same facts and rules, and as many derived atoms; the layers are each program's own
 pub record SameRules (P Q : Program) : Type 0 where

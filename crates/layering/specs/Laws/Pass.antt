@@ -54,6 +54,7 @@ module _ (F : ℕ) where
   asks-each : (ls : List ℕ) (body : List Literal) {l : Literal} → Memᴰ l body →
       layer_in F ls l.atom + cond l.negated 1 0 ≤ asks F ls body
   unfolding asks
+  asks-each ls [] m = elim m [ ]
   asks-each ls (l ∷ body) (Memᴰ.head e) = rw e (le-max_left _ (asks F ls body))
   asks-each ls (k ∷ body) (Memᴰ.tail m) =
       omega (arith, asks-each ls body m, le-max_right (layer_in F ls k.atom + cond k.negated 1 0) (asks F ls body))
@@ -83,6 +84,7 @@ module _ (F : ℕ) where
   pub pass-asks : (rs : List Rule) (ls : List ℕ) {r : Rule} → Memᴰ r rs → HeadIn F ls r → {l : Literal} → Memᴰ l r.body →
       layer_in F ls l.atom + cond l.negated 1 0 ≤ layer_in F (pass F rs ls) r.head
   unfolding pass
+  pass-asks [] ls m h i = elim m [ ]
   pass-asks (q ∷ rs) ls {r} (Memᴰ.head e) h {l} i =
       let ms = raised F r ls in
       rw (← e) (omega (arith, raised-asks r ls h i, in-below ms (pass F rs ms) (pass_below rs ms) r.head))

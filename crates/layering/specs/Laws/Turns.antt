@@ -5,7 +5,7 @@ use Rattle.std.proofs.Common.{sym, ap, ◌∙◌, arith, add-one, length-set, dr
 use Rattle.std.proofs.Math.ListN.{get_or}
 use Rattle.std.proofs.lemmas.List.{set-get_or}
 use Rattle.std.proofs.Math.Seq.{drop-cons}
-use Rattle.meaning.specs.Laws.Tests.{get_or-upto}
+use Rattle.meaning.proofs.Laws.Tests.{get_or-upto}
 use Rattle.format.specs.Bytes.{u16}
 use Rattle.format.specs.File.{F, D, R, start_of, literal_at, rule_at, decode}
 use Rattle.format.specs.Walk.{first_at}

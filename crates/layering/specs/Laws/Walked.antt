@@ -43,6 +43,7 @@ numbered : (P : Program) {r : Rule} → Memᴰ r P.rules → (j : ℕ) × (j < l
 numbered P = go P.rules
   where
     go : (rs : List Rule) {r : Rule} → Memᴰ r rs → (j : ℕ) × (j < length rs) × (get_or rs j (record { head = 0; body = [] }) ≡ r)
+    go [] m = elim m [ ]
     go (q ∷ rs) (Memᴰ.head e) = (0, omega arith, sym e)
     go (q ∷ rs) (Memᴰ.tail m) = let (j, h, e) = go rs m in (suc j, omega arith, e)
 

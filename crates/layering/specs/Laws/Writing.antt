@@ -4,7 +4,7 @@ use Rattle.std.proofs.Common.{sym, ap, ◌∙◌, arith, zero-add, add-one, belo
 use Rattle.std.proofs.Math.Seq.{paste, paste-zero, paste-suc}
 use Rattle.std.proofs.lemmas.List.Edits.{length-paste}
 use Rattle.meaning.specs.Lists.{upto}
-use Rattle.meaning.specs.Laws.Tests.{length-upto, get_or-upto}
+use Rattle.meaning.proofs.Laws.Tests.{length-upto, get_or-upto}
 use Rattle.format.specs.File.{F, D}
 use Rattle.layering.specs.Rising.{layer_in}
 use Rattle.layering.specs.Calls.{WriteAsked}

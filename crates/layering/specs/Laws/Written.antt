@@ -12,8 +12,8 @@ use Rattle.std.proofs.Math.Seq.{get_or-append-add, get_or-take, get_or-drop}
 use Rattle.std.proofs.lemmas.Bool.{lt-leb}
 use Rattle.meaning.specs.Lists.{upto}
 use Rattle.meaning.specs.Meaning.{Literal, Rule, Program, Choice, Layered, layer_of, total, weigh, holds, weight_of}
-use Rattle.meaning.specs.Laws.Tests.{length-upto, get_or-upto, mem-upto}
-use Rattle.meaning.specs.Laws.Weights.{weigh-same}
+use Rattle.meaning.proofs.Laws.Tests.{length-upto, get_or-upto, mem-upto}
+use Rattle.meaning.proofs.Laws.Weights.{weigh-same}
 use Rattle.format.specs.Bytes.{byte, u16, u32}
 use Rattle.format.specs.File.{F, D, R, fact_at, layers_at, rules_at, after, start_of, literal, literal_at, rule_at, decode}
 use Rattle.format.specs.Refusals.{breaks, verdict}
@@ -25,7 +25,7 @@ use Rattle.format.specs.Laws.Reading.{Stands, stands-whole, stands-left, stands-
 use Rattle.format.specs.declared.Verdict.TheVariants.{Accepted}
 use Rattle.diagram.specs.Diagram.{diagram_of}
 use Rattle.diagram.specs.Listing.{listing}
-use Rattle.diagram.specs.Laws.Function.{of-good, of-says, of-only}
+use Rattle.diagram.proofs.Laws.Function.{of-good, of-says, of-only}
 use Rattle.chains.specs.Layering.{Legal}
 use Rattle.layering.specs.Written.{relayered}
 use Rattle.layering.specs.Laws.Models.{layers-any}

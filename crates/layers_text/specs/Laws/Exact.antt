@@ -36,7 +36,8 @@ pub layers-said-exact : {s text : List ℕ} → LayersSaid s text → Formed s �
 layers-said-exact {s} {text} said formed {layer} smallest low =
     let out : List ℕ = upto (D s) (λ i. layer (F s + i)) ++ drop (D s) (replicate 2048 0) in
     let done : LayersDone s (replicate 2048 0) out = record { layer = layer; smallest = smallest; low = low; bytes = refl } in
-    let is : LayersIs s (replicate 2048 0) out (found_told s variant.Layers) = found variant.Layers empty-long (formed-passes formed) done refl in
+    let is : LayersIs s (replicate 2048 0) out (found_told s variant.Layers) = found variant.Layers empty-long (formed-passes formed) done
+    refl in
     let other : LayersSaid s (layers_text (F s) (found_told s variant.Layers) (take (D s) out)) =
     record { out = out; told = found_told s variant.Layers; is = is; text_is = refl } in
     let none = (told_fixed said.is is).refusal in

@@ -7,7 +7,7 @@ use Rattle.text.specs.Laws.Decimal.{decimal-short}
 use Rattle.text.specs.Laws.Lines.{Listed, listed_more, listed-all}
 use Rattle.text.specs.Laws.Parts.{pair-most}
 use Rattle.text.specs.Laws.Wrote.{wrote_then}
-use Rattle.meaning.specs.Laws.Tests.{length-upto, get_or-upto}
+use Rattle.meaning.proofs.Laws.Tests.{length-upto, get_or-upto}
 use Rattle.format.specs.Bytes.{u16}
 use Rattle.layers_text.specs.LayersText.{layer_line, rule_line, rule_lines, chain_in}
 use Rattle.layers_text.specs.Asked.{LayerLinesAsked}

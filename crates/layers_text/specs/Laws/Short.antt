@@ -7,7 +7,7 @@ use Rattle.text.specs.Laws.Decimal.{decimal-short}
 use Rattle.text.specs.Laws.Lines.{lines-most}
 use Rattle.text.specs.Laws.Parts.{refused-most}
 use Rattle.meaning.specs.Lists.{upto}
-use Rattle.meaning.specs.Laws.Tests.{length-upto, get_or-upto}
+use Rattle.meaning.proofs.Laws.Tests.{length-upto, get_or-upto}
 use Rattle.format.specs.File.{F, D, R}
 use Rattle.format.specs.Passed.{Formed}
 use Rattle.format.specs.Laws.Decoded.{decode-rules}

@@ -14,6 +14,7 @@ use Rattle.text.specs.Text.{ascii, decimal_in, pair_line, lines}
 use Rattle.report.specs.Report.{header, finished_text, said}
 
 pub said-S : said file_s ≡ ascii "atoms 6 facts 2 total 20 updates 8\n0 5\n1 8\n2 5\n3 2\n4 2\n5 3\n"
-unfolding said verdict decode u16 u32 layer_of total weigh load runs lowest_above atoms_from combine negate eval tree_of finished_text header
+unfolding said verdict decode u16 u32 layer_of total weigh load runs lowest_above atoms_from combine negate eval tree_of finished_text
+    header
     lines pair_line decimal_in
 said-S = refl

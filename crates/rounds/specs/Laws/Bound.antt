@@ -1,11 +1,34 @@
 -- From a store that the calls gave back a layer of n atoms takes at most n × (n + 1) updates: at each choice n rounds settle it
 -- (`rounds-settle` of growth), and one more finds that. So a budget of the sum over the remaining layers gives finished or full.
-use Rattle.std.specs.Prelude.{◌≡◌, refl, ◌⊎◌, Bool, true, false, cond, List, [], ◌∷◌, ◌++◌, ℕ, zero, suc, ◌+◌, ◌*◌, ◌≤◌, ◌<◌, T, eqb, leb, length}
+use Rattle.std.specs.Prelude.{
+  ◌≡◌,
+  refl,
+  ◌⊎◌,
+  Bool,
+  true,
+  false,
+  cond,
+  List,
+  [],
+  ◌∷◌,
+  ◌++◌,
+  ℕ,
+  zero,
+  suc,
+  ◌+◌,
+  ◌*◌,
+  ◌≤◌,
+  ◌<◌,
+  T,
+  eqb,
+  leb,
+  length,
+}
 use Rattle.std.proofs.Common.{ap, subst, ◌∙◌, inl, inr, append-nil, arith, suc-mul, mul-le-mul, length-append, leb-true, le-leb, ne_eqb}
 use Rattle.std.proofs.lemmas.Bool.{lt-leb}
 use Rattle.meaning.specs.Lists.{upto, sum}
 use Rattle.meaning.specs.Meaning.{Program, atoms, Layered}
-use Rattle.meaning.specs.Laws.Settle.{bit_le}
+use Rattle.meaning.proofs.Laws.Settle.{bit_le}
 use Rattle.update.specs.Update.{Store}
 use Rattle.update.specs.Laws.Held.{present}
 use Rattle.rounds.specs.Layers.{finished_layer, next_layer, has_atoms, atoms_from, atoms_of}
@@ -66,14 +89,14 @@ module _ {P : Program} (w : Layered P) where
 
   module _ (room : atoms P ≤ 544) where
     -- where r rounds settle the layer, at most r change it and one more closes it; so what is left at the end is that much less
-    rounds-most : {k m j : ℕ} {st st₁ : Store} {N : ℕ} → Standing P k st → (r : ℕ) → Settles P k (present st) r → Rounds P N k st m j st₁ →
+    rounds-most : {N k m j : ℕ} {st st₁ : Store} → Standing P k st → (r : ℕ) → Settles P k (present st) r → Rounds P N k st m j st₁ →
         m + (length (atoms_of P j) + cost P (suc j)) ≤ r * length (atoms_of P k) + (length (atoms_of P k) + cost P (suc k))
     rounds-most s r h none = omega arith
-    rounds-most {N = N} s zero h (round u n t) = absurd (n (settled-round w room N s h u))
-    rounds-most {k} {N = N} s (suc r) h (round u n t) =
+    rounds-most {N} s zero h (round u n t) = absurd (n (settled-round w room N s h u))
+    rounds-most {N} {k} s (suc r) h (round u n t) =
         let s₁ = standing-each w room s N (atoms_of P k) (atoms-layer P k) u in
         omega (arith, suc-mul r (length (atoms_of P k)), rounds-most s₁ r (settles-less w room N s h u) t)
-    rounds-most {k} {N = N} s r h (closing {i = i} {st₁ = st₁} u n e t) =
+    rounds-most {N} {k} s r h (closing {i = i} {st₁ = st₁} u n e t) =
         let s₁ = standing-closed w room (standing-each w room s N (atoms_of P k) (atoms-layer P k) u) N e in
         let next : i ≡ next_layer P k = (close-only P N k st₁ e).next in
         let c : layer_cost P i + cost P (suc i) ≤ cost P (suc k) = rw next (cost-next k s.fit.at_work) in

@@ -6,7 +6,7 @@ use Rattle.std.proofs.Common.{subst, ◌∙◌, arith, eqb-true}
 use mathlib.Core.List.{List, [], ◌∷◌, Memᴰ}
 use Rattle.std.proofs.lemmas.Bool.{not-false}
 use Rattle.meaning.specs.Meaning.{Program, atoms, layer_of, Layered}
-use Rattle.meaning.specs.Laws.Settle.{times}
+use Rattle.meaning.proofs.Laws.Settle.{times}
 use Rattle.growth.specs.Growth.{Present, updated, updated_all, Settled}
 use Rattle.growth.specs.Laws.Present.{StateOf, settled-still, settled_same as settled-alike}
 use Rattle.growth.specs.Laws.Rounds.{OfLayer, rounds-settle}
@@ -56,7 +56,7 @@ module _ {P : Program} (w : Layered P) (room : atoms P ≤ 544) where
   each-present {st = st} s N (a ∷ l) o u =
       let v = each_first P N st a l u in
       let e = o a (Memᴰ.head refl) in
-      each-present (standing-update w room s N a e v.first) N l (λ b m. o b (Memᴰ.tail m)) v.rest ∙
+      each-present {st = v.next} (standing-update w room s N a e v.first) N l (λ b m. o b (Memᴰ.tail m)) v.rest ∙
       ap (updated_all P l) (update-present s N a e v.first)
 
   -- and a round takes one of the rounds that settle the layer
@@ -78,7 +78,7 @@ module _ {P : Program} (w : Layered P) (room : atoms P ≤ 544) where
       let e = o a (Memᴰ.head refl) in
       let i = f a (Memᴰ.head refl) in
       let known = standing-known w room s a e in
-      each-places (standing-update w room s N a e v.first) N l (λ b m. o b (Memᴰ.tail m))
+      each-places {st = v.next} (standing-update w room s N a e v.first) N l (λ b m. o b (Memᴰ.tail m))
       (λ b m. settled-alike P (present st) (present v.next)
       (λ x c z. sym (ap (λ (p : Present). p x c) (update-present s N a e v.first) ∙ settled-still P (present st) a i x c z))
       b (f b (Memᴰ.tail m))) v.rest ∙

@@ -1,8 +1,47 @@
 -- The instructions one after another: what stands between two of them, and that what is left answers what the whole script answers.
 -- The words after the nodes are zeros throughout, since a building leaves them, and what had no room is taken back.
-use Rattle.std.specs.Prelude.{◌≡◌, Bool, true, false, List, [], ◌∷◌, ◌++◌, ℕ, suc, ◌+◌, ◌-◌, ◌*◌, ◌/◌, ◌≤◌, ◌<◌, ltb, length, get_or, take, drop, set, replicate}
+use Rattle.std.specs.Prelude.{
+  ◌≡◌,
+  Bool,
+  true,
+  false,
+  List,
+  [],
+  ◌∷◌,
+  ◌++◌,
+  ℕ,
+  suc,
+  ◌+◌,
+  ◌-◌,
+  ◌*◌,
+  ◌/◌,
+  ◌≤◌,
+  ◌<◌,
+  ltb,
+  length,
+  get_or,
+  take,
+  drop,
+  set,
+  replicate,
+}
 use Rattle.std.proofs.Math.Path.{refl, ap}
-use Rattle.std.proofs.Common.{sym, ap₂, ◌∙◌, add-one, length-set, take-append-drop, length-take-le, take-suc-set, drop-set-lt, drop-drop, get_or-set_same, get_or-set_other, lt-ltb, le-ltb}
+use Rattle.std.proofs.Common.{
+  sym,
+  ap₂,
+  ◌∙◌,
+  add-one,
+  length-set,
+  take-append-drop,
+  length-take-le,
+  take-suc-set,
+  drop-set-lt,
+  drop-drop,
+  get_or-set_same,
+  get_or-set_other,
+  lt-ltb,
+  le-ltb,
+}
 use native.Mathlib.Omega.{arith}
 use Rattle.std.proofs.Math.Decide.{dec_lt}
 use Rattle.std.proofs.lemmas.List.{length-replicate}

@@ -1,6 +1,18 @@
 -- Decimal digits: `decimal` is what `io::decimal` answers, and how many digits there are.
 use Rattle.std.specs.Prelude.{◌≡◌, refl, [], ◌∷◌, ◌++◌, ℕ, zero, suc, ◌+◌, ◌-◌, ◌*◌, ◌/◌, ◌%◌, ◌^◌, ◌≤◌, ◌<◌, length}
-use Rattle.std.proofs.Common.{sym, ap, ◌∙◌, arith, pow-suc, div-lt_iff_lt-mul, le-div_iff_mul-le, mod-eq_of_lt, length-append, lt-ltb, le-ltb}
+use Rattle.std.proofs.Common.{
+  sym,
+  ap,
+  ◌∙◌,
+  arith,
+  pow-suc,
+  div-lt_iff_lt-mul,
+  le-div_iff_mul-le,
+  mod-eq_of_lt,
+  length-append,
+  lt-ltb,
+  le-ltb,
+}
 use Rattle.std.proofs.Math.Decide.{dec_lt}
 use Rattle.std.proofs.Math.Nat.{one-le-pow, pow-le-pow_right}
 use Rattle.io.specs.Digits.{hex_digit_ascii, last_digits, IsDigitCount}

@@ -14,7 +14,8 @@ pub digits-room : {n k : ℕ} {ds : List ℕ} → n < 2 ^ 64 → IsDigitCount 10
 digits-room {n} {k} h f e = omega (arith, ap length (e ∙ decimal-digits n k h f), decimal-most n)
 
 -- and make the number
-pub digits-named : {out out₁ ds : List ℕ} {at r n k : ℕ} → n < 2 ^ 64 → IsDigitCount 10 1 n k → ds ≡ last_digits 10 k n → Wrote out out₁ at r ds →
+pub digits-named : {out out₁ ds : List ℕ} {at r n k : ℕ} → n < 2 ^ 64 → IsDigitCount 10 1 n k → ds ≡ last_digits 10 k n →
+    Wrote out out₁ at r ds →
     Named out out₁ at r [] n
 digits-named {n = n} {k} h f e w = record {
   wrote = wrote-is w (e ∙ decimal-digits n k h f);

@@ -1,6 +1,21 @@
 -- Text written in parts: what is written behind a text continues it, and the output's length stays.
 use Rattle.std.specs.Prelude.{◌≡◌, refl, List, [], ◌++◌, ℕ, ◌+◌, ◌≤◌, ◌<◌, length, get_or, set, take, drop}
-use Rattle.std.proofs.Common.{sym, ap, ◌∙◌, append_assoc, append-nil, arith, zero-add, add-one, length-append, length-drop, take-append-drop, length-take-le, take_at, drop-drop}
+use Rattle.std.proofs.Common.{
+  sym,
+  ap,
+  ◌∙◌,
+  append_assoc,
+  append-nil,
+  arith,
+  zero-add,
+  add-one,
+  length-append,
+  length-drop,
+  take-append-drop,
+  length-take-le,
+  take_at,
+  drop-drop,
+}
 use Rattle.std.proofs.Math.Seq.{drop-append-add, paste, paste-zero, paste-suc, take-length}
 use Rattle.text.specs.Wrote.{Wrote}
 use Rattle.text.specs.Text.{Printed}

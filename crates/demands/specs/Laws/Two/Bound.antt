@@ -57,9 +57,14 @@ module _ {layers : List ℕ → List ℕ → Layering} (s : List ℕ) (h : Hand)
   each_back {k} {st} {g} (a ∷ l) held o (next e r) =
       let (step, leaves) = one s h long held a e in
       let m : Made s h k (after_update (decode s) st a) l g =
-      each_back l (held_update held (o a (Memᴰ.head refl)) step) (λ b i. o b (Memᴰ.tail i))
+      each_back {st = after_update (decode s) st a} l (held_update held (o a (Memᴰ.head refl)) step) (λ b i. o b (Memᴰ.tail i))
       (subst (λ y. Each (ours layers) s y l g) leaves r) in
-      record { after_it = m.after_it; step = (λ i. elim (step i) as (λ _. Updated) [ full ↦ full | done st₁ ↦ update_each (decode s) (room h) st₁ l ]) ∙ m.step; leaves = m.leaves }
+      record {
+        after_it = m.after_it;
+        step = (λ i. elim (step i) as (λ _. Updated)
+            [ full ↦ full | done st₁ ↦ update_each (decode s) (room h) st₁ l ]) ∙ m.step;
+        leaves = m.leaves;
+      }
 
   module _ (w : Layered (decode s)) (few : atoms (decode s) ≤ 544) where
     -- where r more rounds settle the layer, at most r change it, and one more may follow

@@ -93,7 +93,7 @@ module _ {layers : List ℕ → List ℕ → Layering} (s : List ℕ) (h : Hand)
       let m = o a (Memᴰ.head refl) in
       let g = update-goes s h long held a m f.first in
       next g.answers (subst (λ y. Each (ours layers) s y l (holding h k st₁)) (sym g.leaves)
-      (each_goes (held_update held m f.first) l (λ b i. o b (Memᴰ.tail i)) f.rest))
+      (each_goes {st = f.next} (held_update held m f.first) l (λ b i. o b (Memᴰ.tail i)) f.rest))
 
   -- rounds past the finish are none,
   past-finish : Bytes s → {k m i : ℕ} {st st₁ : Store} {g : Hand} → Held s (room h) k st → k ≡ finished_layer →

@@ -6,7 +6,7 @@ use Rattle.meaning.specs.Meaning.{given}
 use Rattle.format.specs.Bytes.{Bytes}
 use Rattle.format.specs.File.{literal, decode}
 use Rattle.rounds.specs.Layers.{finished_layer}
-use Rattle.questions.specs.Laws.Answers.{evidence-exact, both-exact}
+use Rattle.questions.proofs.Laws.Answers.{evidence-exact, both-exact}
 use Rattle.state.specs.Hand.{Hand}
 use Rattle.calls.specs.Refusals.{Table, first_of, given_tests}
 use Rattle.calls.specs.Calls.{Layering, evidence_weight, given_host, ours}

@@ -5,7 +5,7 @@ use Rattle.std.proofs.Math.Path.{ap}
 use Rattle.std.proofs.Math.Decide.{dec_lt}
 use Rattle.std.proofs.lemmas.List.{length-map}
 use Rattle.meaning.specs.Meaning.{Program}
-use Rattle.meaning.specs.Laws.Tests.{length-upto}
+use Rattle.meaning.proofs.Laws.Tests.{length-upto}
 use Rattle.format.specs.File.{decode}
 use Rattle.format.specs.Laws.Decoded.{decode-atoms}
 use Rattle.store.specs.Store.{pack, Sound}

@@ -2,14 +2,14 @@
 use Rattle.std.specs.Prelude.{◌≡◌, not, List, ℕ, ◌≤◌, ◌<◌}
 use Rattle.std.proofs.Common.{ap, ◌∙◌}
 use Rattle.meaning.specs.Meaning.{Program, Layered, atoms, layer_of, holds, weight_of}
-use Rattle.meaning.specs.Laws.Weights.{weigh-same}
+use Rattle.meaning.proofs.Laws.Weights.{weigh-same}
 use Rattle.format.specs.Bytes.{Bytes}
 use Rattle.update.specs.Update.{Store}
 use Rattle.update.specs.Laws.Held.{present}
 use Rattle.rounds.specs.Reached.{Reached as Reached-store}
 use Rattle.rounds.specs.Laws.Reached.{exact_below}
 use Rattle.questions.specs.Questions.{weight_so_far}
-use Rattle.questions.specs.Laws.Answers.{weight-so-far-below, weight-so-far-exact}
+use Rattle.questions.proofs.Laws.Answers.{weight-so-far-below, weight-so-far-exact}
 use Rattle.state.specs.Hand.{Hand}
 use Rattle.calls.specs.Refusals.{Table, first_of, later, weight_tests}
 use Rattle.calls.specs.Calls.{Layering, weight_host, ours}
