@@ -19,7 +19,7 @@ STATEMENTS = [("demands", "Demands"), ("calls", "ours"), ("worked", "table"), ("
 CONTRACTS = ["crates/reach/src/lib.rt", "crates/report/src/lib.rt", "crates/layers_text/src/lib.rt"]
 
 # Words of antt, and names that every file has from its Prim without a `use` line.
-WORDS = set("→ × ⊥ : record elim Type Dec now".split())
+WORDS = set("→ × ⊥ : record elim Type Dec".split())
 
 PAGE = "docs/TRUST.md"
 BEGIN, END = "<!-- believed: begin -->", "<!-- believed: end -->"
@@ -29,7 +29,7 @@ class Believed:
     """All files, and the definitions found so far."""
 
     def __init__(self):
-        files = map(sources.File, sources.find("crates/*/specs/**/*.antt"))
+        files = map(sources.File, sources.find("crates/*/specs/**/*.antt") + sources.find("crates/*/proofs/Laws/**/*.antt"))
         self.files = {(f.crate, f.name): f for f in files}
         self.structs = sources.structs()
         self.found = {}        # (crate, file) -> names of definitions
@@ -37,24 +37,24 @@ class Believed:
 
     def place(self, module):
         """A module's crate and file; None where it is the toolchain's."""
-        m = re.match(r"Rattle·(\w+?)(?:·specs)?\.specs\.(.+)$", module)
+        m = re.match(r"Rattle\.(\w+)\.((?:specs|proofs)\..+)$", module)
         if not m or not any(crate == m.group(1) for crate, _ in self.files):
             return None
         return m.groups()
 
     def target(self, brought, modules, own, word):
-        """What a word names: (crate, file, name), or None for a name of the toolchain or a numeral."""
-        if re.fullmatch(r"0x[0-9a-fA-F_]+|[0-9][0-9_]*|\"\"", word) or word in WORDS:
+        """What a word names, up to its fields: (crate, file, name), or None for a name of the toolchain or a numeral."""
+        name, *behind = word.split(".")
+        if re.fullmatch(r"0x[0-9a-fA-F_]+|[0-9][0-9_]*|\"\"", word) or name in WORDS:
             return None
-        module, dot, name = word.rpartition(".")
-        if dot and module in modules:
-            at, there = self.place(modules[module]), name
-        elif word in brought:
-            at, there = self.place(brought[word][0]), brought[word][1]
-        elif own and (word in own.definitions or word in own.owner):
-            at, there = (own.crate, own.name), word
+        if behind and name in modules:
+            at, there = self.place(modules[name]), behind[0]
+        elif name in brought:
+            at, there = self.place(brought[name][0]), brought[name][1]
+        elif own and (name in own.definitions or name in own.owner):
+            at, there = (own.crate, own.name), name
         else:
-            operator = [n for n in list(brought) + list(own.definitions if own else ()) if "_" in n and word.strip("_") in n.split("_")]
+            operator = [n for n in [*brought, *(own.definitions if own else ())] if "◌" in n and name in n.split("◌")]
             if not operator:
                 raise LookupError(word)
             return self.target(brought, modules, own, operator[0])
@@ -66,16 +66,16 @@ class Believed:
             module, dot, name = word.rpartition(".")
             path, name = (f.modules.get(module, ""), name) if dot else f.brought.get(word, ("", ""))
             there = self.files.get(self.place(path))
-            return word in f.owner or "the-variants" in path or bool(there and name in there.owner)
+            return word in f.owner or "TheVariants" in path or bool(there and name in there.owner)
         return test
 
     def follow(self, crate, file, name):
         """Adds a definition and all that it rests on."""
-        if file.startswith("declared"):
-            return self.declare(crate, [w for w in file.split(".") if w != "the-variants"][-1])
+        if file.startswith("specs.declared."):
+            return self.declare(crate, [w for w in file.split(".") if w != "TheVariants"][-1])
         f = self.files.get((crate, file))
         if f is None:
-            sys.exit(f"believed: there is no file {crate}/specs/{file}")
+            sys.exit(f"believed: crate {crate} has no file {file}")
         name = name if name in f.definitions else f.owner.get(name, name)
         if name in f.definitions:
             if name not in self.found.setdefault((crate, file), set()):
@@ -84,7 +84,7 @@ class Believed:
         elif name in f.brought:
             self.words(f.path, f.brought, f.modules, f, [name])
         else:
-            sys.exit(f"believed: {crate}/specs/{file} has no definition {name}")
+            sys.exit(f"believed: {f.path} has no definition {name}")
 
     def words(self, path, brought, modules, own, words):
         """Follows each word of a definition or a contract."""
@@ -111,9 +111,9 @@ class Believed:
     def contract(self, function):
         """Follows what a public function's contract says, and the structs of its signature."""
         brought, modules = sources.ghost_uses(function.path)
-        bound = set(re.findall(r"\b(\w+): ", function.text)) | set(re.findall(r"{ λ (\w+)\.", function.text))
-        free = sources.Scope(lambda word: False).free(sources.tree(function.contract()), bound)
-        self.words(function.path, brought, modules, None, free)
+        for clause in function.contract():
+            free = sources.Scope(lambda word: False).free(clause, function.parameters() | {"result"})
+            self.words(function.path, brought, modules, None, free)
         for name, target in sources.types(function.path).items():
             if target in self.structs and re.search(rf"\b{name}\b", function.text):
                 self.declare(*target)
@@ -122,8 +122,9 @@ class Believed:
         """Each believed file with its definitions, in reading order."""
         for crate in sources.crates():
             files = [file for c, file in self.found if c == crate]
-            library = re.findall(r"(?m)^pub mod (\S+)", sources.read(f"crates/{crate}/specs/Lib.antt")) if files else []
-            for file in sorted(files, key=lambda file: (library.index(file.split(".")[0]), file)):
+            libraries = "\n".join(map(sources.read, sources.find(f"crates/{crate}/*/Lib.antt")))
+            order = re.findall(r"(?m)^pub mod (\S+)", libraries)
+            for file in sorted(files, key=lambda file: (order.index(file.split(".")[1]), file)):
                 f = self.files[crate, file]
                 yield f, [name for name in f.definitions if name in self.found[crate, file]]
 
@@ -165,6 +166,11 @@ def page_list():
     return before + begin, now.rstrip("\n").split("\n"), "\n" + end + after
 
 
+def of_laws(name):
+    """Whether a file of this name holds laws: those in specs/Laws, and all in proofs/, which contracts do not cite."""
+    return bool(re.match(r"specs\.Laws\b|proofs\.", name))
+
+
 def check(all_of_it):
     """What is wrong, a line each."""
     now, then = page_list()[1], table(all_of_it)
@@ -177,11 +183,11 @@ def check(all_of_it):
         if not any(f"`{crate}`" in cell for cell in prose):
             yield f"{PAGE} does not say how crate {crate} was tried"
     for f, names in all_of_it.rows():
-        if f.name.startswith("Laws"):
+        if of_laws(f.name):
             yield f"{f.path} is a file of laws and holds what is believed: {', '.join(names)}"
             continue
         for module in sorted({module for module, _ in f.brought.values()} | set(f.modules.values())):
-            if (all_of_it.place(module) or ("", ""))[1].startswith("Laws"):
+            if of_laws((all_of_it.place(module) or ("", ""))[1]):
                 yield f"{f.path} holds what is believed and has a use line of {module}"
 
 

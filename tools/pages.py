@@ -13,8 +13,9 @@ Read are the pages of the root, docs/, bench/README.md and man/. What stands in 
                                       one that they bring from the toolchain, or a file's name without its ending; a.b is two such
 
 Outside of backticks: paths of the tree, the abbreviated ones of docs/MAP.md (a letter bound at that page, none twice), names behind such
-a path (they must be declared there), 'must-fail NAME, ..' and 'mutant NAME, ..'. docs/ARCHITECTURE.md's table must have every crate,
-and docs/WRONG.md two wrong answers for every public contract of a library crate.
+a path (they must be declared there), 'must-fail NAME, ..' and 'mutant NAME, ..'. In a path F and NAME stand for any function and any
+crate. docs/PORT.md also names what was: `old` before an arrow to `new`, or behind the word 'was'; there the new name alone is judged.
+docs/ARCHITECTURE.md's table must have every crate, and docs/WRONG.md two wrong answers for every public contract of a library crate.
 """
 import os
 import re
@@ -22,20 +23,21 @@ import sys
 
 import sources
 
-# Words of the toolchain that no `use` line of the tree brings: commands, words of the language, tactics, what its proofs are written with.
+# Words of the toolchain that no `use` line of the tree brings: commands, words of the language, tactics, its kit with a crate and a folder.
 TOOLCHAIN = set("""
-    rt abbrev as elim let match pub unfoldable unfolding ensures requires cc omega rw --allow-holes old: error unsolved paths.py extract.py
-    Lts Lts.antt .Symbol .before .came .kept tie.In-loop tie.Left-rules code.calls-format·walk·first
-    LL.tells S′.mir dead-incl lft-carve lft-join lft-meet lft-split lft-unmeet Denote/Examples/Count.antt
+    rt abbrev as elim let match pub unfoldable unfolding ensures requires cc omega rw --allow-holes old:
+    port.py rattle-kit-13f io borrow.Author
 """.split())
-# The benchmark's ratios and files, a package.
-OTHERS = set("run/BuDDy+start weigh/engine full-crossed12 graph-ring22 reversed-heavy500x3 libbdd-dev".split())
+# The benchmark's ratios and files, a package, the archive that a build makes.
+OTHERS = set("run/BuDDy+start weigh/engine full-crossed12 graph-ring22 reversed-heavy500x3 libbdd-dev libreach.a".split())
 ALLOWED = TOOLCHAIN | OTHERS
 
 CRATES = "docs/ARCHITECTURE.md"  # the page with the table of crates
+PORT = "docs/PORT.md"  # the page that names what was before the port
 TOP = "crates docs tools examples tests bench man include".split()
 CODE = re.compile(r"[\s(){}\[\]<>=&'\"λ→≡;,!?^|«»…]|\.\.")
 LETTER = re.compile(r"[^\W\d_]")
+FORMER = re.compile(r"`[^`\n]+`(?=\s+→\s+`)|(?<=\bwas )`[^`\n]+`")
 
 
 def pages():
@@ -54,8 +56,7 @@ class Tree:
             self.declared[path] = rust_names(sources.read(path))
         for path in sources.find("include/*.h") + sources.find("examples/*.c") + sources.find("bench/*.[ch]*"):
             self.declared[path] = set(re.findall(r"\b[A-Za-z_]\w*\b", re.sub(r"(?s)/\*.*?\*/", "", sources.read(path))))
-        self.files = {os.path.relpath(os.path.join(at, name), sources.ROOT) for at, _, names in os.walk(sources.ROOT) for name in names
-                      if not re.match(r"(\.git|target)\b", os.path.relpath(at, sources.ROOT))}
+        self.files = set(walk(""))
         self.folders = {os.path.dirname(f) for f in self.files} | {os.path.dirname(os.path.dirname(f)) for f in self.files}
         self.endings = {os.path.basename(f).rpartition(".")[2] for f in self.files if "." in os.path.basename(f)}
         self.names = set().union(*self.declared.values()) | set(sources.crates()) | ALLOWED
@@ -66,7 +67,7 @@ class Tree:
 
     def path(self, text, letters=(), inside=()):
         """The path that a text means, or None: as it is, below crates/ or one of these crates, or with its letter's folder."""
-        text = text.rstrip("/")
+        text = re.sub(r"(?<=/)(?:F|NAME)(?=/)", "*", text.rstrip("/"))
         head, _, rest = text.partition("/")
         starts = [letters[head] + "/" + rest] if head in letters else [text, "crates/" + text]
         if head in ("src", "specs", "proofs", "must-fail"):
@@ -93,6 +94,16 @@ class Tree:
                 if all(word in around for word in outer):
                     return True
         return False
+
+
+def walk(folder):
+    """The files below a folder, but for git's own and what a build has made."""
+    for entry in os.scandir(os.path.join(sources.ROOT, folder)):
+        path = os.path.join(folder, entry.name)
+        if entry.is_dir(follow_symlinks=False):
+            yield from walk(path) if path != ".git" and not sources.made(path) else ()
+        else:
+            yield path
 
 
 def helpers(f):
@@ -220,7 +231,7 @@ def main():
         text = sources.read(page)
         letters, doubled = bindings(page, text)
         wrong += doubled
-        lines = prose(text)
+        lines = prose(FORMER.sub("", text) if page == PORT else text)
         found = [(at, span) for at, span in spans(lines) if span not in letters and not judge(tree, span, letters, lines[at])]
         found += [(at, name) for at, line in enumerate(lines) for name in plain(tree, line, letters)]
         wrong += [f"{page}:{at + 1}: {name}" for at, name in sorted(found)]

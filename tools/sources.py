@@ -20,14 +20,19 @@ def read(path):
 
 
 def find(pattern):
-    """The files below the root that a pattern names, in order."""
-    return sorted(os.path.relpath(p, ROOT) for p in glob.glob(os.path.join(ROOT, pattern), recursive=True))
+    """The files below the root that a pattern names, in order; what a build has made is none of them."""
+    return sorted(p for p in glob.glob(pattern, root_dir=ROOT, recursive=True) if not made(p))
+
+
+def made(path):
+    """Whether a path is a folder that a build makes, or lies in one: target/, and out/ of a crate."""
+    return bool(re.match(r"(?:target|crates/[^/]+/out)(?:/|$)", path))
 
 
 def crates():
-    """The crates in the order of crates.txt, lowest first."""
+    """The crates in the order of crates.txt, lowest first; behind a crate's name may stand what else is made of it."""
     lines = (line.split("#")[0].strip() for line in read("crates.txt").split("\n"))
-    return [line.split(":")[0] for line in lines if line]
+    return [line.split(":")[0].split()[0] for line in lines if line]
 
 
 # ---- terms of antt
@@ -93,7 +98,7 @@ class Scope:
                 yield from self.let(items[at + 1 : end], bound)
                 bound.add(items[at + 1])
                 at = end
-            elif item[0] not in ".,;@" and item not in bound:
+            elif item[0] not in ".,;@" and item.split(".")[0] not in bound:
                 yield item
             at += 1
 
@@ -166,12 +171,11 @@ class Definition:
 
 
 class File:
-    """One .antt file: the names that its `use` lines bring, and its definitions."""
+    """One .antt file: the names that its `use` lines bring, and its definitions. Its name is its module's in its crate: specs.File."""
 
     def __init__(self, path):
-        below = path.split("/")
-        self.path, self.crate = path, below[1]
-        self.name = ".".join(below[3:])[: -len(".antt")]
+        self.path, self.crate, *below = path, *path.split("/")[1:]
+        self.name = ".".join(below)[: -len(".antt")]
         self.brought = {}      # name -> (module, its name there)
         self.modules = {}      # a module's short name -> module
         self.definitions = {}  # name -> Definition, in the file's order
@@ -292,8 +296,16 @@ class Function:
         exported = 'extern "C"' in self.text
         return self.name if exported else "::".join(w for w in (self.crate, self.module, self.owner, self.name) if w)
 
+    def parameters(self):
+        """The names of the parameters; the function's own answer is `result` in its contract."""
+        return set(re.findall(r"\b(\w+): ", self.text))
+
     def contract(self):
-        return "\n".join(re.findall(r"⌜(.*?)⌝", self.text, re.S))
+        """What each clause says, as a tree: `requires { .. }`, `ensures NAME { .. }`."""
+        items = tree(re.sub(r"//.*", "", self.text[: -len("{")]))
+        for at, item in enumerate(items):
+            if item in ("requires", "ensures"):
+                yield next(group for group in items[at:] if isinstance(group, list))[1:]
 
 
 def public_functions():
@@ -334,6 +346,11 @@ def structs():
 
 def types(path):
     """The names of types that a source file of Rattle brings -> (crate, name)."""
-    crate = path.split("/")[1]
-    uses = re.findall(r"(?m)^(?:pub )?use (\w+)::(?:\w+::)*(\w+);", read(path))
-    return {name: (crate if outer == "crate" else outer, name) for outer, name in uses}
+    out, known = {}, crates()
+    for outer, items in re.findall(r"(?m)^(?:pub )?use (\w+)::([^;]+);", read(path)):
+        crate = outer if outer in known else path.split("/")[1]
+        for item in re.split(r"[{},]", items):
+            words = item.split("::")[-1].split()
+            if words:
+                out[words[-1]] = (crate, words[0])
+    return out

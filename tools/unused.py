@@ -9,19 +9,24 @@ import sys
 import sources
 
 USE = re.compile(r"(?ms)^(?:ghost )?use ([^\s{;]+?)(?:\.\{([^}]*)\})?(?: as ([^\s;]+))?;?[ ]*$")
+OWN_USE = re.compile(r"(?ms)^(?:pub )?use [^;]*;$")  # a line of Rattle's own (`use format::Verdict;`) is the compiler's to judge
 
 
 def unused(path):
     """The names that a file brings and does not write."""
     text = sources.without_comments(sources.read(path))
     if path.endswith(".rt"):
-        text = re.sub(r"//.*", "", text)
+        text = OWN_USE.sub("", re.sub(r"//.*", "", text))
     rest = re.sub(r"(?ms)^pub use [^\n]*?\{.*?\}$", "", USE.sub("", text))
-    words = set(re.split(r"[\s(){}.,;⌜⌝]+", rest))
+    words = set(re.split(r"[\s(){}.,;]+", rest))
     for module, names, alias in USE.findall(text):
         brought = [item.split()[-1] for item in names.split(",") if item.strip()] or [alias or module.split(".")[-1]]
-        if names or "." in module:  # a line of Rattle's own (`use format::Verdict;`) is the compiler's to judge
-            yield from (name for name in brought if name not in words and not all(part in words for part in name.split("_") if part))
+        yield from (name for name in brought if name not in words and not parts(name) <= words)
+
+
+def parts(operator):
+    """What is written of an operator: ≡ of ◌≡◌, if, then and else of if◌then◌else◌."""
+    return set(operator.split("◌")) - {""}
 
 
 def main():
