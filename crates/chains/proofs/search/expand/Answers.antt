@@ -2,7 +2,16 @@
 use Prim.Native.Nat.{◌+◌, ◌/◌, ◌<◌}
 use native.Mathlib.Omega.{arith}
 use Rattle.chains.specs.Laws.Lead.{counts-inside}
-use Rattle.chains.specs.Laws.Visit.{expand-entry, expand-atom, expand-start, expand-short, expand-asked, expand-later, expand-next, expand-end}
+use Rattle.chains.specs.Laws.Visit.{
+  expand-entry,
+  expand-atom,
+  expand-start,
+  expand-short,
+  expand-asked,
+  expand-later,
+  expand-next,
+  expand-end,
+}
 use Rattle.chains.proofs.search.expand.Goals as goal
 use Rattle.chains.proofs.search.expand.Goals.{After-wide, In-loop-j}
 
