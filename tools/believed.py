@@ -16,7 +16,7 @@ import sources
 
 # The statements: names of a crate's specs/, and the source files whose public functions' contracts are statements.
 STATEMENTS = [("demands", "Demands"), ("calls", "ours"), ("worked", "table"), ("worked", "answer")]
-CONTRACTS = ["crates/reach/src/lib.rt", "crates/report/src/lib.rt", "crates/layers_text/src/lib.rt"]
+CONTRACTS = ["crates/reach_c/src/lib.rt", "crates/reach/src/lib.rt", "crates/report/src/lib.rt", "crates/layers_text/src/lib.rt"]
 
 # Words of antt, and names that every file has from its Prim without a `use` line.
 WORDS = set("→ × ⊥ : record elim Type Dec".split())

@@ -1,4 +1,4 @@
-// The calls of include/reach.h: what C may call, for any file, any memory and any numbers.
+// The calls of include/reach.h, for any file, any memory and any numbers; crate reach_c exports them to C.
 //
 // Each call tests what 01 says it tests, in 01's order, hands the parts of the lent memory that are used to the crate that does the work,
 // and gives its answer in C's numbers (calls/specs/Calls.antt).
@@ -29,8 +29,7 @@ use format::Verdict;
 use state::State;
 
 // Reads a file's counts and total.
-#[unsafe(no_mangle)]
-pub extern "C" fn reach_read(file: &[u8]) -> Counts
+pub fn reach_read(file: &[u8]) -> Counts
     ensures { result ≡ read_host file.now }
 {
     match format::validate::check(file) {
@@ -57,8 +56,7 @@ pub extern "C" fn reach_read(file: &[u8]) -> Counts
 }
 
 // Loads a file into the lent memory.
-#[unsafe(no_mangle)]
-pub extern "C" fn reach_load(file: &[u8], nodes: &mut [u32], places: &mut [u16]) -> Step
+pub fn reach_load(file: &[u8], nodes: &mut [u32], places: &mut [u16]) -> Step
     ensures { stepped result nodes.new places.new ≡
         load_host file.now (lending nodes.old places.old) }
 {
@@ -83,8 +81,7 @@ pub extern "C" fn reach_load(file: &[u8], nodes: &mut [u32], places: &mut [u16])
 }
 
 // Updates an atom of the layer in work.
-#[unsafe(no_mangle)]
-pub extern "C" fn reach_update(
+pub fn reach_update(
     file: &[u8],
     nodes: &mut [u32],
     places: &mut [u16],
@@ -102,13 +99,7 @@ pub extern "C" fn reach_update(
 }
 
 // Closes the layer in work.
-#[unsafe(no_mangle)]
-pub extern "C" fn reach_close(
-    file: &[u8],
-    nodes: &mut [u32],
-    places: &mut [u16],
-    state: State,
-) -> Step
+pub fn reach_close(file: &[u8], nodes: &mut [u32], places: &mut [u16], state: State) -> Step
     ensures { stepped result nodes.new places.new ≡
         close_host file.now (handing nodes.old places.old state) }
 {
@@ -120,8 +111,7 @@ pub extern "C" fn reach_close(
 }
 
 // Runs with a budget of updates.
-#[unsafe(no_mangle)]
-pub extern "C" fn reach_run(
+pub fn reach_run(
     file: &[u8],
     nodes: &mut [u32],
     places: &mut [u16],
@@ -145,8 +135,7 @@ pub extern "C" fn reach_run(
 }
 
 // The weight so far of an atom.
-#[unsafe(no_mangle)]
-pub extern "C" fn reach_weight(
+pub fn reach_weight(
     file: &[u8],
     nodes: &[u32],
     places: &[u16],
@@ -165,8 +154,7 @@ pub extern "C" fn reach_weight(
 }
 
 // The weight of an atom of a finished run given evidence.
-#[unsafe(no_mangle)]
-pub extern "C" fn reach_given(
+pub fn reach_given(
     file: &[u8],
     nodes: &mut [u32],
     places: &[u16],
@@ -195,8 +183,7 @@ pub extern "C" fn reach_given(
 }
 
 // The listing of an atom of a finished run.
-#[unsafe(no_mangle)]
-pub extern "C" fn reach_listing(
+pub fn reach_listing(
     file: &[u8],
     nodes: &[u32],
     places: &[u16],
@@ -215,8 +202,7 @@ pub extern "C" fn reach_listing(
 }
 
 // The smallest layers that the rules allow, or a chain of rules that leaves none.
-#[unsafe(no_mangle)]
-pub extern "C" fn reach_layers(file: &[u8], out: &mut [u8]) -> Listed
+pub fn reach_layers(file: &[u8], out: &mut [u8]) -> Listed
     ensures { LayersAnswer file.now out.old (layering result out.new) }
 {
     let told = layering::tell(file, out);
