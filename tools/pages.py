@@ -25,7 +25,7 @@ import sources
 
 # Words of the toolchain that no `use` line of the tree brings: commands, words of the language, tactics, its kit with a crate and a folder.
 TOOLCHAIN = set("""
-    rt abbrev as elim let match pub unfoldable unfolding ensures requires cc omega rw --allow-holes old:
+    rt abbrev as elim let match pub unfoldable unfolding ensures requires result cc omega rw --allow-holes old:
     port.py rattle-kit-13f io borrow.Author
 """.split())
 # The benchmark's ratios and files, a package, the archive that a build makes.
@@ -112,9 +112,9 @@ def helpers(f):
 
 
 def rattle_names(text):
-    """Functions, structs, enums with their variants, constants, modules, labels, fields, parameters and locals of a Rattle source."""
+    """Functions, structs, enums with their variants, types with methods, constants, modules, labels, fields, parameters, locals."""
     text = re.sub(r"//.*", "", text)
-    names = set(re.findall(r"\b(?:fn|struct|enum|const|mod|let|let mut) (\w+)", text)) | set(re.findall(r"'\w+", text))
+    names = set(re.findall(r"\b(?:fn|struct|enum|impl|const|mod|let|let mut) (\w+)", text)) | set(re.findall(r"'\w+", text))
     return names | set(re.findall(r"\b(\w+): ", text)) | set(re.findall(r"(?m)^\s+([A-Z]\w*)\b[ ]*[,{(]", text))
 
 

@@ -1,12 +1,10 @@
 -- What each call of include/reach.h answers, and what the lent memory then holds: for any file, any memory and any numbers, by the tables
 -- of refusals (Refusals.antt).
-use Rattle.std.specs.Prelude.{cond, List, ◌++◌, map, ℕ, ◌+◌, eqb, length, drop}
+use Rattle.std.specs.Prelude.{Ok, Err, cond, List, ◌++◌, map, ℕ, ◌+◌, eqb, length, drop}
 use Rattle.meaning.specs.Lists.{zeroed}
 use Rattle.meaning.specs.Meaning.{weigh}
 use Rattle.format.specs.File.{literal, decode}
-use Rattle.format.specs.Refusals.{verdict, number, detail}
-use Rattle.format.specs.declared.Verdict.{Verdict}
-use Rattle.format.specs.declared.Verdict.TheVariants.{Accepted, Refused}
+use Rattle.format.specs.Refusals.{Verdict, verdict, number, detail}
 use Rattle.diagram.specs.Diagram.{says}
 use Rattle.layering.specs.Told.{LayersIs}
 use Rattle.update.specs.Update.{Store, after_update}
@@ -37,8 +35,8 @@ use Rattle.calls.specs.declared.Listed.{Listed}
 
 -- a verdict in C's numbers: F, D and the total, or the refusal's number and detail and 0 for every other number
 abbrev pub counts : Verdict → Counts
-counts (Accepted f d r t) = record { refusal = 0; detail = 0; facts = f; derived = d; total = t }
-counts (Refused w) = record { refusal = number w; detail = detail w; facts = 0; derived = 0; total = 0 }
+counts (Ok a) = record { refusal = 0; detail = 0; facts = a.facts; derived = a.derived; total = a.total }
+counts (Err w) = record { refusal = number w; detail = detail w; facts = 0; derived = 0; total = 0 }
 
 -- reach_read: "refusals 1 to 11 as at loading"
 abbrev pub read_host : List ℕ → Counts

@@ -1,13 +1,11 @@
 -- The refusals of every call (document 01, "Refusal numbers"): for each call a table in 01's order, of which the first row that is due
 -- counts. A row has the refusal's number, its detail ("0 where none is named"), and whether it is due.
-use Rattle.std.specs.Prelude.{Bool, true, false, not, ◌&&◌, ℕ, ◌+◌, ◌/◌, eqb, ltb, leb, length}
+use Rattle.std.specs.Prelude.{Ok, Err, Bool, true, false, not, ◌&&◌, ℕ, ◌+◌, ◌/◌, eqb, ltb, leb, length}
 use mathlib.Core.List.{List, [], ◌∷◌, map}
 use Rattle.meaning.specs.Lists.{all}
 use Rattle.meaning.specs.Meaning.{Program, atoms, layer_of}
 use Rattle.format.specs.File.{literal, decode}
-use Rattle.format.specs.Refusals.{verdict, passes, number, detail}
-use Rattle.format.specs.declared.Verdict.{Verdict}
-use Rattle.format.specs.declared.Verdict.TheVariants.{Accepted, Refused}
+use Rattle.format.specs.Refusals.{Verdict, verdict, passes, number, detail}
 use Rattle.diagram.specs.Diagram.{leaf}
 use Rattle.update.specs.Update.{diagram_at, body_builds, update_builds, is_full, after_update}
 use Rattle.rounds.specs.Layers.{finished_layer, atoms_of}
@@ -36,12 +34,13 @@ answering (t ∷ ts) refuse answer = elim t.2 [ true ↦ refuse t.0 t.1 | false 
 
 -- refusals 1 to 11 of a file, or 0, and their details
 abbrev pub file_refusal : Verdict → ℕ
-file_refusal (Accepted f d r t) = 0
-file_refusal (Refused w) = number w
+file_refusal (Ok a) = 0
+file_refusal (Err w) = number w
 
+-- and its detail
 abbrev pub file_detail : Verdict → ℕ
-file_detail (Accepted f d r t) = 0
-file_detail (Refused w) = detail w
+file_detail (Ok a) = 0
+file_detail (Err w) = detail w
 
 -- "Loading: 1 to 7 in order; then rules ..; leftover (8); 36; 12." "36 | fewer than 544 atom places"
 abbrev pub load_tests : List ℕ → Lent → Table

@@ -5,24 +5,19 @@ use Rattle.meaning.specs.Meaning.{Literal}
 use Rattle.format.specs.File.{F, D, R, decode}
 use Rattle.format.specs.Passed.{Formed}
 use Rattle.chains.specs.Layering.{rule_of}
+use Rattle.chains.specs.declared.search.Search.{Search}
 use Rattle.chains.specs.Laws.Cut.{SomeChain}
 
--- a file that has passed its check but for 11, and its counts
-pub record Sized (s : List ℕ) (facts derived rules : ℕ) : Type 0 where
+-- a file that has passed its check but for 11 and has a chain
+pub record FindAsked (s out : List ℕ) : Type 0 where
   pub formed : Formed s
-  pub facts_are : facts ≡ F s
-  pub derived_are : derived ≡ D s
-  pub rules_are : rules ≡ R s
-
--- a file that has a chain
-pub record FindAsked (s out : List ℕ) (facts derived rules : ℕ) : Type 0 where
-  pub sized : Sized s facts derived rules
   pub some : SomeChain (decode s)
   pub room : 2048 ≤ length out
 
 -- ---- the search for a chain through an atom
 -- A place of the search is twice a derived atom's number among the derived ones, plus 1 once a negated link has been passed. `queue` holds
--- the places reached; at each of its entries `from` has the entry from which and `by` the rule by which it was reached; `entry` has at each
+-- the places reached, so many as `count` says; at each of its entries `from` has the entry from which and `by` the rule by which it was
+-- reached; `entry` has at each
 -- place 1 more than its entry, or 0 where it was not reached.
 
 -- rule j leads from one place to another: its head is the first one's atom, and its body holds the second one's
@@ -35,16 +30,17 @@ pub record Step (s : List ℕ) (j p q : ℕ) : Type 0 where
   pub flag : q % 2 ≡ cond literal.negated 1 (p % 2)
 
 -- the places reached from atom x
-pub record Trail (s : List ℕ) (x : ℕ) (queue from by entry : List ℕ) (count : ℕ) : Type 0 where
-  pub some : 0 < count
-  pub first : get_or queue 0 0 ≡ 2 * (x - F s)
-  pub inside : (k : ℕ) → k < count → get_or queue k 0 < 2 * D s
+pub record Trail (s : List ℕ) (x : ℕ) (found : Search) : Type 0 where
+  pub some : 0 < found.count
+  pub first : get_or found.queue 0 0 ≡ 2 * (x - F s)
+  pub inside : (k : ℕ) → k < found.count → get_or found.queue k 0 < 2 * D s
   pub back :
-      (k : ℕ) → 0 < k → k < count →
-      (get_or from k 0 < k) × Step s (get_or by k 0) (get_or queue (get_or from k 0) 0) (get_or queue k 0)
-  pub entries : (k : ℕ) → k < count → get_or entry (get_or queue k 0) 0 ≡ k + 1
+      (k : ℕ) → 0 < k → k < found.count →
+      (get_or found.from k 0 < k) × Step s (get_or found.by k 0) (get_or found.queue (get_or found.from k 0) 0) (get_or found.queue k 0)
+  pub entries : (k : ℕ) → k < found.count → get_or found.entry (get_or found.queue k 0) 0 ≡ k + 1
   pub reached :
-      (p : ℕ) → p < 2 * D s → 0 < get_or entry p 0 → (get_or entry p 0 ≤ count) × (get_or queue (get_or entry p 0 - 1) 0 ≡ p)
+      (p : ℕ) → p < 2 * D s → 0 < get_or found.entry p 0 →
+      (get_or found.entry p 0 ≤ found.count) × (get_or found.queue (get_or found.entry p 0 - 1) 0 ≡ p)
 
 -- the rules on the way to entry k of the queue, at most so many
 unfoldable pub way_to : ℕ → List ℕ → List ℕ → ℕ → List ℕ

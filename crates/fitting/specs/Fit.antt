@@ -7,7 +7,8 @@ use Rattle.meaning.specs.Lists.{any, all, upto}
 use Rattle.meaning.specs.Meaning.{Program, atoms}
 use Rattle.format.specs.File.{decode}
 use Rattle.format.specs.Refusals.{verdict, passes}
-use Rattle.diagram.specs.Listing.{Node, same_node}
+use Rattle.diagram.specs.Listing.{same_node}
+use Rattle.diagram.specs.declared.Node.{Node}
 use Rattle.store.specs.Store.{nodes_in, nowhere, fact_at}
 use Rattle.rounds.specs.Layers.{finished_layer, has_atoms}
 use Rattle.rounds.specs.Load.{fact_node}

@@ -1,6 +1,6 @@
 pub mod Numbers
-pub mod First
 pub mod Compared
+pub mod First
 pub mod Decoded
 pub mod FactsRead
 pub mod RulesRead

@@ -1,6 +1,7 @@
 pub mod Bytes
 pub mod File
 pub mod Refusals
+pub mod Counted
 pub mod Checked
 pub mod Walk
 pub mod Legal

@@ -1,5 +1,5 @@
 -- When a file is refused, with what number and detail (document 01, "Refusal numbers", 1 to 11), in the order "Loading: ..".
-use Rattle.std.specs.Prelude.{Bool, true, false, not, ◌&&◌, cond, ℕ, ◌+◌, eqb, ltb, leb, length}
+use Rattle.std.specs.Prelude.{Result, Ok, Err, Bool, true, false, not, ◌&&◌, cond, ℕ, ◌+◌, eqb, ltb, leb, length}
 use mathlib.Core.List.{List, [], ◌∷◌, ◌++◌, flatten}
 use Rattle.meaning.specs.Lists.{upto}
 use Rattle.meaning.specs.Meaning.{Literal, Program, layer_of, total, atoms}
@@ -19,8 +19,7 @@ use Rattle.format.specs.declared.Refusal.TheVariants.{
   Unknown,
   Layers,
 }
-use Rattle.format.specs.declared.Verdict.{Verdict}
-use Rattle.format.specs.declared.Verdict.TheVariants.{Accepted, Refused}
+use Rattle.format.specs.declared.Accepted.{Accepted}
 
 -- ---- numbers and details
 
@@ -53,6 +52,10 @@ detail (Layers j) = j
 
 -- ---- tests, of which the first that fails counts
 
+-- what the check of a file says: accepted, with F, D, R and the total, or refused
+abbrev pub Verdict : Type 0
+Verdict = Result Accepted Refusal
+
 pub record Test : Type 0 where
   pub fails : Bool
   pub refusal : Refusal
@@ -65,7 +68,7 @@ differs m n = not (eqb m n)
 
 unfoldable pub first : List Test → Verdict → Verdict
 first [] v = v
-first (t ∷ ts) v = cond t.fails (Refused t.refusal) (first ts v)
+first (t ∷ ts) v = cond t.fails (Err t.refusal) (first ts v)
 
 -- ---- what is tested
 
@@ -151,10 +154,14 @@ file_tests layered s =
     length_tests s ++ (contents_tests s ++ (counts_tests s ++ (offset_tests s ++
     (each (F s) (fact_test s) ++ (total_tests s ++ (each (D s) (layer_test s) ++ rules_tests layered s))))))
 
+-- what an accepted file holds
+abbrev pub accepted_of : List ℕ → Accepted
+accepted_of s = record { facts = F s; derived = D s; rules = R s; total = total (decode s).facts }
+
 -- what the check of a file says, with 11 or without
 unfoldable pub verdict_by : Bool → List ℕ → Verdict
 unfolding first file_tests
-verdict_by layered s = first (file_tests layered s) (Accepted (F s) (D s) (R s) (total (decode s).facts))
+verdict_by layered s = first (file_tests layered s) (Ok (accepted_of s))
 
 -- what loading's check says
 unfoldable pub verdict : List ℕ → Verdict
@@ -163,5 +170,5 @@ verdict s = verdict_by true s
 
 -- "the file passes 1 to 11"
 abbrev pub passes : Verdict → Bool
-passes (Accepted f d r t) = true
-passes (Refused w) = false
+passes (Ok a) = true
+passes (Err w) = false

@@ -1,11 +1,16 @@
 // The program file (document 01, "The program file"): the check of a file, and the walk over its rules.
 //
-// specs/File.antt says what the bytes mean, specs/Refusals.antt which refusal a file gets, and specs/Walk.antt what the
-// walk finds. No public function asks anything of its caller, but for the reads of `bytes`, which ask for a place inside.
+// specs/File.antt says what the bytes mean, specs/Refusals.antt which refusal a file gets, and specs/Walk.antt what the walk finds. Of its
+// public functions only those of `bytes` ask for something, a place inside, and `Program::of` for the contents' 28 bytes.
 #![tactic(auto)]
 
 pub mod bytes;
+mod contents;
+mod facts;
 pub mod numbers;
+pub mod program;
+mod rules;
+mod tables;
 pub mod validate;
 pub mod walk;
 
@@ -25,14 +30,11 @@ pub enum Refusal {
     Layers(u32),
 }
 
-// What the check of a file says: accepted, with F, D, R and the total, or refused.
+// What an accepted file holds: F, D, R and the total.
 #[derive(Clone, Copy)]
-pub enum Verdict {
-    Accepted {
-        facts: u32,
-        derived: u32,
-        rules: u32,
-        total: u64,
-    },
-    Refused(Refusal),
+pub struct Accepted {
+    pub facts: u32,
+    pub derived: u32,
+    pub rules: u32,
+    pub total: u64,
 }

@@ -3,7 +3,7 @@ use Rattle.std.specs.Prelude.{◌≡◌, Bool, true, false, List, ℕ, ◌+◌, 
 use Rattle.meaning.specs.Lists.{upto}
 use Rattle.meaning.specs.Meaning.{Literal}
 use Rattle.format.specs.Bytes.{u16}
-use Rattle.format.specs.File.{F, D, R, literal, decode}
+use Rattle.format.specs.File.{F, D, literal, decode}
 use Rattle.format.specs.Passed.{Formed}
 use Rattle.layering.specs.Rising.{pass}
 
@@ -18,10 +18,8 @@ pub record BodyAsked (s layers : List ℕ) (facts at len : ℕ) : Type 0 where
   pub low : (i : ℕ) → get_or layers i 0 < 4294967295
 
 -- the layers after at most 512 passes over at most 2,048 rules: a rule raises the highest by one at most
-pub record PassAsked (s layers : List ℕ) (facts rules : ℕ) : Type 0 where
+pub record PassAsked (s layers : List ℕ) : Type 0 where
   pub formed : Formed s
-  pub facts_are : facts ≡ F s
-  pub rules_are : rules ≡ R s
   pub size : length layers ≡ D s
   pub low : (i : ℕ) → get_or layers i 0 ≤ 1 + 2048 * 512
 

@@ -1,5 +1,5 @@
 -- How layers are worked out: every derived atom starts at 1, and pass after pass each rule raises its head to what its body asks.
-use Rattle.std.specs.Prelude.{cond, List, [], ◌∷◌, ℕ, zero, suc, ◌+◌, ◌-◌, max, ltb, length, get_or, set, replicate}
+use Rattle.std.specs.Prelude.{Bool, cond, nat_lt, List, [], ◌∷◌, ℕ, zero, suc, ◌+◌, ◌-◌, max, ltb, length, get_or, set, replicate}
 use Rattle.meaning.specs.Meaning.{Literal, Rule, Program}
 
 -- an atom's layer, of F facts and the derived atoms' layers
@@ -22,3 +22,7 @@ unfoldable pub passes : Program → ℕ → List ℕ
 unfolding pass
 passes P zero = replicate (length P.layers) 1
 passes P (suc n) = pass (length P.facts) P.rules (passes P n)
+
+-- a layer that does not fit in a byte
+abbrev pub high_layer : ℕ → Bool
+high_layer l = nat_lt 255 l

@@ -3,85 +3,102 @@
 
 mod rising;
 
-ghost use Rattle.std.specs.Prelude.{◌≤◌, length, ◌≡◌};
+ghost use Rattle.std.specs.Prelude.{◌≡◌, ◌≤◌, length};
 ghost use Rattle.format.specs.Passed.{Formed};
-ghost use Rattle.layering.specs.Told.{Done, LayersIs};
+ghost use Rattle.layering.specs.Told.{Done, LayersIs, told_of, told_as};
+ghost use Rattle.layering.specs.declared.Untold.TheVariants.{Refused as refused, Unlayered as unlayered};
 
-use format::Verdict;
-use format::bytes::u16_at;
+use chains::Lowest;
+use format::Refusal;
+use format::program::Program;
 
-// The layers were written; or the lowest atom whose layer is over 255; or the lowest atom on a chain, and the number of rules of a chain
-// through it, which was written.
+// What stands against layers: the lowest atom whose layer is over 255, or the lowest on a chain of rules, one of which was written.
 #[derive(Clone, Copy)]
-pub enum Found {
-    Layers,
+pub enum Unlayered {
     High(u32),
-    Chain(u32, u32),
+    Chain(Lowest),
 }
 
-// The layers of a file that has passed its check but for 11, or what stands against them.
-pub fn layers(file: &[u8], out: &mut [u8]) -> Found
-    requires { Formed file.now × (2048 ≤ length out.old) }
-    ensures { Done file.now out.old out.new result }
+// The layers of a file that has passed its check but for 11 are written, or what stands against them is told.
+pub fn layers(program: Program, out: &mut [u8]) -> Result<(), Unlayered>
+    requires { Formed program.file.now × (2048 ≤ length out.old) }
+    ensures { Done program.entry.file.now out.old out.new result }
 {
-    let facts = u16_at(file, 6);
-    let derived = u16_at(file, 14);
-    let rules = u16_at(file, 22);
     let mut room = [1u32; 512];
-    if rising::settle(file, &mut room[..derived], facts, derived, rules) {
-        return rising::written(file, &room[..derived], facts, derived, rules, out);
+    let layers = &mut room[..program.derived];
+    if !rising::settle(program, layers) {
+        return Err(Unlayered::Chain(chains::chain::find(program, out)));
     }
-    let lowest = chains::chain::find(file, facts, derived, rules, out);
-    Found::Chain(lowest.atom, lowest.count)
+    rising::written(program, layers, out)
 }
 
-// The call's answer: a refusal with its detail, or none, and how many bytes were written.
+// Why the call refuses: the output is under 2,048 bytes, or the file's check or its layers are refused.
 #[derive(Clone, Copy)]
-pub struct Told {
-    pub refusal: u32,
-    pub detail: u32,
-    pub length: u64,
+pub enum Untold {
+    Short,
+    Refused(Refusal),
+    Unlayered(Unlayered),
 }
 
-fn refusal(number: u32, detail: u32) -> Told
-    ensures { result ≡ record { refusal = number; detail = detail; length = 0 } }
-{
-    Told {
-        refusal: number,
-        detail,
-        length: 0,
+impl From<Refusal> for Untold {
+    ghost from_gives = { λ w e. e ≡ refused w };
+
+    fn from(why: Refusal) -> Untold {
+        Untold::Refused(why)
     }
 }
 
-// The layers of any file, with the refusals of L4 in its order.
-pub fn tell(file: &[u8], out: &mut [u8]) -> Told
-    ensures { LayersIs file.now out.old out.new result }
+impl From<Unlayered> for Untold {
+    ghost from_gives = { λ u e. e ≡ unlayered u };
+
+    fn from(why: Unlayered) -> Untold {
+        Untold::Unlayered(why)
+    }
+}
+
+impl Untold {
+    // The document's number.
+    pub fn number(self) -> u32
+        ensures { result ≡ (told_as self).refusal }
+    {
+        match self {
+            Untold::Short => 21,
+            Untold::Refused(why) => why.number(),
+            Untold::Unlayered(Unlayered::High(_)) => 37,
+            Untold::Unlayered(Unlayered::Chain(_)) => 24,
+        }
+    }
+
+    pub fn detail(self) -> u32
+        ensures { result ≡ (told_as self).detail }
+    {
+        match self {
+            Untold::Short => 0,
+            Untold::Refused(why) => why.detail(),
+            Untold::Unlayered(Unlayered::High(atom)) => atom,
+            Untold::Unlayered(Unlayered::Chain(lowest)) => lowest.atom,
+        }
+    }
+
+    // How many bytes were written: a chain's.
+    pub fn length(self) -> u64
+        ensures { result ≡ (told_as self).length }
+    {
+        match self {
+            Untold::Unlayered(Unlayered::Chain(lowest)) => 2 + 2 * u64::from(lowest.count),
+            _ => 0,
+        }
+    }
+}
+
+// The layers of any file, and how many bytes they are; with the refusals of L4 in its order.
+pub fn tell(file: &[u8], out: &mut [u8]) -> Result<u32, Untold>
+    ensures { LayersIs file.now out.old out.new (told_of result) }
 {
     if out.len() < 2048 {
-        return refusal(21, 0);
+        return Err(Untold::Short);
     }
-    match format::validate::check_by(file, false) {
-        Verdict::Accepted {
-            facts: _,
-            derived,
-            rules: _,
-            total: _,
-        } => match layers(file, out) {
-            Found::Layers => Told {
-                refusal: 0,
-                detail: 0,
-                length: derived as u64,
-            },
-            Found::High(atom) => refusal(37, atom),
-            Found::Chain(atom, count) => Told {
-                refusal: 24,
-                detail: atom,
-                length: 2 + 2 * count as u64,
-            },
-        },
-        Verdict::Refused(why) => refusal(
-            format::numbers::number(why),
-            format::numbers::detail(why),
-        ),
-    }
+    let accepted = format::validate::check_by(file, false)?;
+    layers(Program::of(file), out)?;
+    Ok(accepted.derived)
 }

@@ -4,8 +4,7 @@ use Rattle.text.specs.Text.{ascii, decimal, pair_line, lines, refused_text, Prin
 use Rattle.meaning.specs.Lists.{upto}
 use Rattle.format.specs.Bytes.{u16}
 use Rattle.format.specs.File.{F}
-use Rattle.layering.specs.Told.{LayersIs}
-use Rattle.layering.specs.declared.Told.{Told}
+use Rattle.layering.specs.Told.{Told, LayersIs}
 
 -- ---- lines
 

@@ -1,25 +1,26 @@
-// The lines that only this text has, at the output's start; each function answers the place behind what it wrote.
-ghost use Rattle.text.specs.Wrote.{Wrote};
+// The lines that only this text has.
+ghost use Rattle.text.specs.Writes.{HasRoom, Writes};
 ghost use Rattle.report.specs.Report.{full_text, header as header_text};
-ghost use Rattle.report.specs.Asked.{Room, HeaderAsked};
 
-use text::{put, put_named};
+use format::program::Program;
+use text::Writer;
 
-pub fn full(out: &mut [u8], updates: u64) -> usize
-    requires { Room out.old }
-    ensures { Wrote out.old out.new 0 result (full_text updates) }
+pub fn full(writer: &mut Writer, updates: u64)
+    requires { HasRoom writer.old 64 }
+    ensures { Writes writer.old writer.new (full_text updates) }
 {
-    let at = put_named(out, 0, b"full ", updates);
-    put(out, at, b"\n")
+    writer.named(b"full ", updates);
+    writer.put(b"\n");
 }
 
-pub fn header(out: &mut [u8], facts: u64, derived: u64, total: u64, updates: u64) -> usize
-    requires { HeaderAsked out.old facts derived }
-    ensures { Wrote out.old out.new 0 result (header_text facts derived total updates) }
+pub fn header(writer: &mut Writer, program: Program, total: u64, updates: u64)
+    requires { HasRoom writer.old 128 }
+    ensures { Writes writer.old writer.new
+        (header_text program.entry.facts program.entry.derived total updates) }
 {
-    let mut at = put_named(out, 0, b"atoms ", facts + derived);
-    at = put_named(out, at, b" facts ", facts);
-    at = put_named(out, at, b" total ", total);
-    at = put_named(out, at, b" updates ", updates);
-    put(out, at, b"\n")
+    writer.named(b"atoms ", program.atoms() as u64);
+    writer.named(b" facts ", program.facts as u64);
+    writer.named(b" total ", total);
+    writer.named(b" updates ", updates);
+    writer.put(b"\n");
 }

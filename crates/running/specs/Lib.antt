@@ -1,3 +1,4 @@
+pub mod Course
 pub mod Stamps
 pub mod Running
 pub mod Laws

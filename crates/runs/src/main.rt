@@ -5,294 +5,202 @@
 // 1 update, else close) and its budget or atom (4 bytes).
 #![tactic(auto)]
 
-ghost use Rattle.std.specs.Prelude.{◌≤◌};
-ghost use Rattle.state.specs.Answers.{AtomAsked, LoadAsked};
+mod show;
+
+ghost use Rattle.std.specs.Prelude.{◌≡◌, length};
+ghost use Rattle.state.specs.Answers.{LoadAsked};
 ghost use Rattle.runs.specs.Ready.{Ready};
 
-use format::Verdict;
-use format::bytes::{u8_at, u16_at, u32_at};
-use state::{Closed, How, State, Step};
+use format::bytes::{u16_at, u32_at};
+use format::program::Program;
+use state::layers::layer_of;
+use state::{How, State, Unclosed};
+use store::Full;
 
 const STDIN_FILENO: i32 = 0;
 
-const STDOUT_FILENO: i32 = 1;
-
-fn print(n: u64) {
-    io::print_decimal(STDOUT_FILENO, n);
+// A run with its budget, an update of an atom, or closing.
+#[derive(Clone, Copy)]
+enum Call {
+    Run(u64),
+    Update(usize),
+    Close,
 }
 
-fn print_word(n: u32) {
-    print(n as u64);
-}
-
-fn print_place(n: u16) {
-    print(n as u64);
-}
-
-fn say(word: &[u8]) {
-    io::write_all(STDOUT_FILENO, word);
-}
-
-fn say_two(word: &[u8], a: u32, b: u32) {
-    say(word);
-    print_word(a);
-    say(b" ");
-    print_word(b);
-    say(b"\n");
-}
-
-fn say_how(how: How) {
-    match how {
-        How::Finished => say(b"finished "),
-        How::Spent => say(b"spent "),
-        How::Full => say(b"full "),
+impl Call {
+    fn of(bytes: &[u8]) -> Call
+        requires { length bytes.now ≡ 5 }
+    {
+        let value = u32_at(bytes, 1);
+        match bytes[0] {
+            0 => Call::Run(value as u64),
+            1 => Call::Update(value),
+            _ => Call::Close,
+        }
     }
 }
 
-// A run, and the state after it.
-fn run(file: &[u8], nodes: &mut [u32], places: &mut [u16], state: State, budget: u64) -> State
-    requires { Ready file.now nodes.old places.old state }
-    ensures { Ready file.now nodes.new places.new result }
+// Prints a state behind the word, and gives it on.
+fn told(word: &[u8], state: State) -> State
+    ensures { result ≡ state }
 {
-    let ran = engine::run(file, nodes, places, state, budget);
-    let how = ran.how;
-    let next = ran.state;
-    say_how(how);
-    print(ran.updates);
-    say_two(b" ", next.layer, next.nodes);
-    next
+    show::text(word);
+    show::numbers(&[state.layer, state.nodes]);
+    state
 }
 
-// An update that has room or has not, and the state after it.
-fn step(file: &[u8], nodes: &mut [u32], places: &mut [u16], state: State, atom: u32) -> State
-    requires ready { Ready file.now nodes.old places.old state }
-    requires atom_asked { AtomAsked file.now atom }
-    ensures { Ready file.now nodes.new places.new result }
-{
-    match engine::update(file, nodes, places, state, atom) {
-        Step::Done(next) => {
-            say_two(b"updated ", next.layer, next.nodes);
-            next
-        }
-        Step::Full => {
-            say(b"refused 12 0\n");
-            state
-        }
-    }
-}
-
-// An update with its refusals, and the state after it.
-fn update(file: &[u8], nodes: &mut [u32], places: &mut [u16], state: State, atom: u32) -> State
-    requires { Ready file.now nodes.old places.old state }
-    ensures { Ready file.now nodes.new places.new result }
-{
-    let facts = u16_at(file, 6);
-    let derived = u16_at(file, 14);
-    let a = atom as usize;
-    if facts + derived <= a {
-        say(b"refused 13 0\n");
-        return state;
-    }
-    if a < facts {
-        say(b"refused 14 0\n");
-        return state;
-    }
-    if state::layers::layer_of(file, facts, derived, a) != state.layer {
-        say(b"refused 14 0\n");
-        return state;
-    }
-    step(file, nodes, places, state, atom)
-}
-
-// Closing with its refusals, and the state after it.
-fn close(file: &[u8], nodes: &mut [u32], places: &[u16], state: State) -> State
-    requires { Ready file.now nodes.old places.now state }
-    ensures { Ready file.now nodes.new places.now result }
-{
-    if state.layer == 65535 {
-        say(b"refused 16 0\n");
-        return state;
-    }
-    match engine::close(file, nodes, places, state) {
-        Closed::Done(next) => {
-            say_two(b"closed ", next.layer, next.nodes);
-            next
-        }
-        Closed::Unsettled(a) => {
-            say(b"refused 15 ");
-            print_word(a);
-            say(b"\n");
-            state
-        }
-        Closed::Full => {
-            say(b"refused 12 0\n");
-            state
-        }
-    }
-}
-
-fn call(
-    file: &[u8],
-    nodes: &mut [u32],
-    places: &mut [u16],
+// What goes from call to call: the program, the lent words and places, and the state.
+#[derive(Drop)]
+struct Session<'a> {
+    program: Program<'a>,
+    nodes: &'a mut [u32],
+    places: &'a mut [u16],
     state: State,
-    what: usize,
-    value: u32,
-) -> State
-    requires { Ready file.now nodes.old places.old state }
-    ensures { Ready file.now nodes.new places.new result }
-{
-    if what == 0 {
-        return run(file, nodes, places, state, value as u64);
-    }
-    if what == 1 {
-        return update(file, nodes, places, state, value);
-    }
-    close(file, nodes, places, state)
 }
 
-fn print_nodes(nodes: &[u32], count: usize) {
-    let mut i = 0;
-    while i < count {
-        if i < nodes.len() {
-            if 0 < i {
-                say(b" ");
-            }
-            let word = nodes[i];
-            print_word(word / 67108864);
-            say(b"/");
-            print_word(word / 8192 % 8192);
-            say(b"/");
-            print_word(word % 8192);
+impl Session<'_> {
+    fn run(&mut self, budget: u64)
+        requires { Ready self.old }
+        ensures ready { Ready self.new }
+        ensures program { self.new.program ≡ self.old.program }
+    {
+        let ran = engine::run(self.program, self.nodes, self.places, self.state, budget);
+        show::text(match ran.how {
+            How::Finished => b"finished ",
+            How::Spent => b"spent ",
+            How::Full => b"full ",
+        });
+        show::number(ran.updates);
+        self.state = told(b" ", ran.state);
+    }
+
+    // An update with its refusals: they are only printed, and the enum that has their numbers is above the engine, in crate calls.
+    fn update(&mut self, atom: usize)
+        requires { Ready self.old }
+        ensures ready { Ready self.new }
+        ensures program { self.new.program ≡ self.old.program }
+    {
+        let program = self.program;
+        if program.atoms() <= atom {
+            return show::text(b"refused 13 0\n");
         }
-        i += 1;
-    }
-    say(b"\n");
-}
-
-fn print_places(places: &[u16], atoms: usize) {
-    let mut a = 0;
-    while a < atoms {
-        if a < places.len() {
-            if 0 < a {
-                say(b" ");
-            }
-            print_place(places[a]);
+        if atom < program.facts || layer_of(program, atom) != self.state.layer {
+            return show::text(b"refused 14 0\n");
         }
-        a += 1;
-    }
-    say(b"\n");
-}
-
-// How many words from `count` on and places from `atoms` on are not 0.
-fn print_rest(nodes: &[u32], count: usize, places: &[u16], atoms: usize) {
-    let mut rest: u64 = 0;
-    let mut i = count;
-    while i < nodes.len() {
-        if 0 < nodes[i] {
-            if rest < 10000 {
-                rest += 1;
-            }
+        match engine::update(program, self.nodes, self.places, self.state, atom) {
+            Ok(next) => self.state = told(b"updated ", next),
+            Err(Full) => show::text(b"refused 12 0\n"),
         }
-        i += 1;
     }
-    let mut a = atoms;
-    while a < places.len() {
-        if 0 < places[a] {
-            if rest < 10000 {
-                rest += 1;
-            }
+
+    // Closing with its refusals.
+    fn close(&mut self)
+        requires { Ready self.old }
+        ensures ready { Ready self.new }
+        ensures program { self.new.program ≡ self.old.program }
+        ensures places { self.new.places.now ≡ self.old.places.now }
+    {
+        if self.state.layer == 65535 {
+            return show::text(b"refused 16 0\n");
         }
-        a += 1;
+        // Taken first: a field behind `self` is not yet covered as a `&` beside another that is lent as `&mut`.
+        let places = &mut *self.places;
+        match engine::close(self.program, self.nodes, places, self.state) {
+            Ok(next) => self.state = told(b"closed ", next),
+            Err(Unclosed::Unsettled(atom)) => {
+                show::text(b"refused 15 ");
+                show::numbers(&[atom]);
+            }
+            Err(Unclosed::Full) => show::text(b"refused 12 0\n"),
+        }
     }
-    say(b"rest ");
-    print(rest);
-    say(b"\n");
+
+    fn call(&mut self, call: Call)
+        requires { Ready self.old }
+        ensures ready { Ready self.new }
+        ensures program { self.new.program ≡ self.old.program }
+    {
+        match call {
+            Call::Run(budget) => self.run(budget),
+            Call::Update(atom) => self.update(atom),
+            Call::Close => self.close(),
+        }
+    }
+
+    // The nodes, the atoms' places, and how many words and places besides are not 0.
+    fn print(&self)
+        requires { Ready self.now }
+    {
+        let (nodes, words) = self.nodes.split_at(self.state.nodes as usize);
+        let (places, others) = self.places.split_at(self.program.atoms());
+        show::nodes(nodes);
+        show::numbers(places);
+        let rest = words.iter().filter(|&&word| word != 0).count()
+            + others.iter().filter(|&&place| place != 0).count();
+        show::text(b"rest ");
+        show::numbers(&[rest as u64]);
+    }
 }
 
-fn run_calls(file: &[u8], nodes: &mut [u32], places: &mut [u16], start: State, calls: &[u8])
-    requires { Ready file.now nodes.old places.old start }
-{
-    let mut state = start;
-    let mut at = 0;
-    while at + 5 <= calls.len() {
-        let value = u32_at(calls, at + 1) as u32;
-        state = call(file, nodes, places, state, u8_at(calls, at), value);
-        at += 5;
-    }
-    let atoms = u16_at(file, 6) + u16_at(file, 14);
-    print_nodes(nodes, state.nodes as usize);
-    print_places(places, atoms);
-    print_rest(nodes, state.nodes as usize, places, atoms);
-}
-
+// Loads the file and does the calls one after another.
 fn run_in(file: &[u8], nodes: &mut [u32], places: &mut [u16], calls: &[u8])
     requires { LoadAsked file.now nodes.old places.old }
 {
-    match engine::load(file, nodes, places) {
-        Step::Done(state) => {
-            say_two(b"loaded ", state.layer, state.nodes);
-            run_calls(file, nodes, places, state, calls);
+    let program = Program::of(file);
+    match engine::load(program, nodes, places) {
+        Ok(state) => {
+            let mut session = Session {
+                program,
+                nodes,
+                places,
+                state: told(b"loaded ", state),
+            };
+            for call in calls.chunks_exact(5) {
+                session.call(Call::of(call));
+            }
+            session.print();
         }
-        Step::Full => say(b"full\n"),
+        Err(Full) => show::text(b"full\n"),
     }
-}
-
-// The store's size as far as there is room.
-fn places_of(size: usize) -> usize
-    ensures { result ≤ 4096 }
-{
-    if 4096 < size {
-        return 4096;
-    }
-    size
 }
 
 fn run_job(file: &[u8], calls: &[u8], size: usize) {
     match format::validate::check(file) {
-        Verdict::Accepted {
-            facts: _,
-            derived: _,
-            rules: _,
-            total: _,
-        } => {
-            let mut nodes = [4294967295u32; 4096];
-            let mut places = [65535u16; 544];
-            let room = places_of(size);
-            run_in(file, &mut nodes[..room], &mut places, calls);
+        Ok(_) => {
+            let mut nodes = [u32::MAX; 4096];
+            let mut places = [u16::MAX; 544];
+            run_in(file, &mut nodes[..size.min(4096)], &mut places, calls);
         }
-        Verdict::Refused(why) => {
-            say_two(
-                b"refused ",
-                format::numbers::number(why),
-                format::numbers::detail(why),
-            );
+        Err(why) => {
+            show::text(b"refused ");
+            show::numbers(&[why.number(), why.detail()]);
         }
     }
 }
 
 fn run_all(input: &[u8]) {
-    let mut at = 0;
-    while at + 8 <= input.len() {
-        let size = u16_at(input, at);
-        let calls = at + 8 + 5 * u16_at(input, at + 2);
-        if input.len() < calls {
+    let mut rest = input;
+    while 8 <= rest.len() {
+        let size = u16_at(rest, 0);
+        let count = 5 * u16_at(rest, 2);
+        let len = u32_at(rest, 4);
+        let (_, jobs) = rest.split_at(8);
+        if jobs.len() < count {
             return;
         }
-        let len = u32_at(input, at + 4);
-        if input.len() - calls < len {
+        let (calls, files) = jobs.split_at(count);
+        if files.len() < len {
             return;
         }
-        let from = at + 8;
-        let end = calls + len;
-        run_job(&input[calls..end], &input[from..calls], size);
-        at = end;
+        let (file, others) = files.split_at(len);
+        run_job(file, calls, size);
+        rest = others;
     }
 }
 
 // Room for the input, 1 MiB. A function of its own, so that the proof of `main` does not compute the array.
 fn buffer() -> [u8; 1048576] {
-    [0u8; 1048576]
+    [0; 1048576]
 }
 
 fn main() {

@@ -1,3 +1,3 @@
--- What scripts satisfy. Step is about one instruction: when it is valid, and what it builds; Run is about one after another.
+-- What scripts satisfy. Step is about one instruction, and what it builds; Run is about one after another.
 pub mod Step
 pub mod Run

@@ -4,83 +4,109 @@
 // disjunction of two earlier results; 3 the negation of one. Its result is the next one.
 #![tactic(auto)]
 
-ghost use Rattle.std.specs.Prelude.{◌≡◌, ◌≤◌, ◌<◌, length};
-ghost use Rattle.script.specs.Script.{steps, is_valid};
-ghost use Rattle.script.specs.Calls.{Ran, StepAsked, StepDone};
+ghost use Rattle.std.specs.Prelude.{◌≤◌, ◌<◌, ◌+◌, ◌*◌, length};
+ghost use Rattle.script.specs.Script.{op, first, second};
+ghost use Rattle.combine.specs.Calls.{Kept};
+ghost use Rattle.script.specs.Calls.{Ran, RunAsked, Parsed, StepAsked, StepDone};
 
-use store::Built;
+use combine::{Builder, Op};
+use diagram::Node;
+use store::{Full, Store};
 
-// How a script ends: after its last instruction, at one that is not valid, or at one for whose result there is no room;
-// with the number of results and of nodes.
+// How a script ends: after its last instruction, at one that is not valid, or at one for whose result there is no room.
 #[derive(Clone, Copy)]
-pub enum End {
-    Done(u32, u32),
-    Bad(u32, u32),
-    Full(u32, u32),
+pub enum How {
+    Done,
+    Bad,
+    Full,
 }
 
-fn wide(x: u8) -> u32
-    ensures { (result ≡ x) × (result < 256) }
-{
-    x as u32
+// The same with the number of results and of nodes.
+#[derive(Clone, Copy)]
+pub struct End {
+    pub how: How,
+    pub results: u32,
+    pub nodes: u32,
 }
 
-// Whether an instruction may be run after `made` results.
-fn valid(op: u32, x: u32, y: u32, made: u32) -> bool
-    ensures { result ≡ is_valid op x y made }
-{
-    if op == 0 {
-        return x < 32;
-    }
-    if op == 3 {
-        return x < made;
-    }
-    if 3 < op {
-        return false;
-    }
-    if made <= y {
-        return false;
-    }
-    x < made
+// What is built: a fact, or of earlier results.
+#[derive(Clone, Copy)]
+enum Instruction {
+    Fact(u16),
+    Both(Op, u16, u16),
+    Not(u16),
 }
 
-// Builds the result of a valid instruction.
-fn step(
-    nodes: &mut [u32],
-    memo: &mut [u64],
-    image: &mut [u32; 4098],
-    results: &[u32],
-    count: u32,
-    made: u32,
-    op: u32,
-    x: u32,
-    y: u32,
-) -> Built
-    requires { StepAsked nodes.old memo.old image.old results.now count made op x y }
-    ensures { StepDone nodes.old nodes.new memo.new image.new
-        results.now count made op x y result }
+// The instruction at place `i`, if it is valid after as many results.
+fn parse(script: &[u8], i: usize) -> Option<Instruction>
+    requires { 5 * i + 4 < length script.now }
+    ensures { Parsed (op script.now i) (first script.now i) (second script.now i) i result }
 {
-    if op == 0 {
-        return store::make(nodes, count, x, 0, 1);
+    let at = 5 * i;
+    let x = u16::from_le_bytes([script[at + 1], script[at + 2]]);
+    let y = u16::from_le_bytes([script[at + 3], script[at + 4]]);
+    let earlier = usize::from(x) < i;
+    let both = earlier && usize::from(y) < i;
+    match script[at] {
+        0 if x < 32 => Some(Instruction::Fact(x)),
+        1 if both => Some(Instruction::Both(Op::And, x, y)),
+        2 if both => Some(Instruction::Both(Op::Or, x, y)),
+        3 if earlier => Some(Instruction::Not(x)),
+        _ => None,
     }
-    let a = results[x as usize];
-    if op == 3 {
-        return combine::negate_at(nodes, image, count, 32, a);
-    }
-    let b = results[y as usize];
-    combine::combine_at(nodes, memo, count, 32, op - 1, a, b)
 }
 
-// The number of instructions that are run: those of the script, as far as there is room for results.
-fn instructions(script: &[u8], results: &[u32]) -> u32
-    requires { length results.now ≤ 65536 }
-    ensures { result ≡ steps script.now (length results.now) }
+// Builds the result of an instruction after the results so far.
+fn step(b: &mut Builder, results: &[u32], instruction: Instruction) -> Result<u32, Full>
+    requires { StepAsked b.old results.now instruction }
+    ensures { StepDone b.old b.new results.now instruction result }
 {
-    let whole = script.len() / 5;
-    if whole < results.len() {
-        return whole as u32;
+    match instruction {
+        Instruction::Fact(x) => b.store.make(Node {
+            fact: u32::from(x),
+            low: 0,
+            high: 1,
+        }),
+        Instruction::Both(op, x, y) => {
+            b.combine(32, op, results[usize::from(x)], results[usize::from(y)])
+        }
+        Instruction::Not(x) => b.negate(32, results[usize::from(x)]),
     }
-    results.len() as u32
+}
+
+// Runs a script in a builder of a store of zeros without nodes.
+fn run_in(b: &mut Builder, results: &mut [u32], script: &[u8]) -> End
+    requires { RunAsked b.old results.old }
+    ensures lent { Kept b.old b.new }
+    ensures ran { Ran b.old.store.now.words.now b.new.store.now.words.now results.old results.new script.now result }
+{
+    let steps = results.len().min(script.len() / 5);
+    for made in 0..steps {
+        let count = b.store.count;
+        let Some(instruction) = parse(script, made) else {
+            return End {
+                how: How::Bad,
+                results: made as u32,
+                nodes: count,
+            };
+        };
+        match step(b, &results[..made], instruction) {
+            Ok(n) => results[made] = n,
+            Err(Full) => {
+                b.store.take_back(count);
+                return End {
+                    how: How::Full,
+                    results: made as u32,
+                    nodes: count,
+                };
+            }
+        }
+    }
+    End {
+        how: How::Done,
+        results: steps as u32,
+        nodes: b.store.count,
+    }
 }
 
 // Runs a script over a store of nodes.len() places, 4,096 at most.
@@ -88,32 +114,15 @@ pub fn run(nodes: &mut [u32], results: &mut [u32], script: &[u8]) -> End
     requires { (length nodes.old ≤ 4096) × (length results.old ≤ 65536) }
     ensures { Ran nodes.old nodes.new results.old results.new script.now result }
 {
-    let mut memo = [0u64; 4096];
-    let mut image = [0u32; 4098];
-    let room = nodes.len() as u32;
-    let steps = instructions(script, results);
-    store::take_back(nodes, 0, room);
-    let mut count: u32 = 0;
-    let mut made: u32 = 0;
-    while made < steps {
-        let at = 5 * (made as usize);
-        let op = wide(script[at]);
-        let x = wide(script[at + 1]) + 256 * wide(script[at + 2]);
-        let y = wide(script[at + 3]) + 256 * wide(script[at + 4]);
-        if !valid(op, x, y, made) {
-            return End::Bad(made, count);
-        }
-        match step(nodes, &mut memo, &mut image, results, count, made, op, x, y) {
-            Built::Node(n, next) => {
-                results[made as usize] = n;
-                made += 1;
-                count = next;
-            }
-            Built::Full => {
-                store::take_back(nodes, count, room);
-                return End::Full(made, count);
-            }
-        }
-    }
-    End::Done(made, count)
+    nodes.fill(0);
+    let mut store = Store {
+        words: nodes,
+        count: 0,
+    };
+    let mut b = Builder {
+        store: &mut store,
+        memo: &mut [0; 4096],
+        image: &mut [0; 4098],
+    };
+    run_in(&mut b, results, script)
 }

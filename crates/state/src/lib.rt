@@ -5,7 +5,13 @@
 pub mod layers;
 pub mod loading;
 
-// reach_state: the layer in work, or 65,535 where the run is finished, and the nodes in use.
+ghost use Rattle.std.specs.Prelude.{◌≡◌};
+ghost use Rattle.state.specs.declared.Unclosed.TheVariants as shut;
+ghost use Rattle.state.specs.declared.How.TheVariants as how;
+
+use store::Full;
+
+// reach_state: the layer in work, or 65,535 where the run is finished, and the nodes in use; a number, since C keeps it between calls.
 #[repr(C)]
 #[derive(Clone, Copy)]
 pub struct State {
@@ -13,26 +19,35 @@ pub struct State {
     pub nodes: u32,
 }
 
-// An answer that may be full; then nothing has changed.
+// Why a layer is not closed: the first atom that is not settled, or no room for the check.
 #[derive(Clone, Copy)]
-pub enum Step {
-    Done(State),
-    Full,
-}
-
-// The answer of closing: the state, the first atom that is not settled, or full.
-#[derive(Clone, Copy)]
-pub enum Closed {
-    Done(State),
+pub enum Unclosed {
     Unsettled(u32),
     Full,
 }
 
+impl From<Full> for Unclosed {
+    ghost from_gives = { λ _ r. r ≡ shut.Full };
+
+    fn from(_: Full) -> Unclosed {
+        Unclosed::Full
+    }
+}
+
+// How a run ends.
 #[derive(Clone, Copy)]
 pub enum How {
     Finished,
     Spent,
     Full,
+}
+
+impl From<Full> for How {
+    ghost from_gives = { λ _ r. r ≡ how.Full };
+
+    fn from(_: Full) -> How {
+        How::Full
+    }
 }
 
 // How a run ended, the state after its updates, and their number.

@@ -1,4 +1,5 @@
 pub mod Store
 pub mod Full
 pub mod Calls
+pub mod Kept
 pub mod Laws

@@ -1,3 +1,4 @@
 pub mod Text
 pub mod Wrote
+pub mod Writes
 pub mod Laws

@@ -1,56 +1,63 @@
-// Text into the output: each function writes at a place and answers the place behind what it wrote.
+// Text into the output: a writer has the output and the place behind what it has written.
 #![tactic(auto)]
 
-ghost use Rattle.std.specs.Prelude.{◌+◌, ◌≤◌, [], length};
+ghost use Rattle.std.specs.Prelude.{◌+◌, [], length};
 ghost use Rattle.text.specs.Text.{pair_line, refused_text};
-ghost use Rattle.text.specs.Wrote.{Wrote, Named};
+ghost use Rattle.text.specs.Writes.{HasRoom, Writes, WritesNamed};
 
-pub fn put(out: &mut [u8], at: usize, text: &[u8]) -> usize
-    requires { at + length text.now ≤ length out.old }
-    ensures { Wrote out.old out.new at result text.now }
-{
-    let mut i = 0;
-    while i < text.len() {
-        out[at + i] = text[i];
-        i += 1;
+#[derive(Drop)]
+pub struct Writer<'a> {
+    pub out: &'a mut [u8],
+    pub at: usize,
+}
+
+// Lines are put part by part and not by `write!`: its contract says what stands in the output where it answers Ok, and nothing says that
+// it does, so a text that is always written could not be promised.
+impl Writer<'_> {
+    pub fn put(&mut self, text: &[u8])
+        requires { HasRoom self.old (length text.now) }
+        ensures { Writes self.old self.new text.now }
+    {
+        let end = self.at + text.len();
+        self.out[self.at..end].copy_from_slice(text);
+        self.at = end;
     }
-    at + text.len()
-}
 
-pub fn put_number(out: &mut [u8], at: usize, n: u64) -> usize
-    requires { at + 20 ≤ length out.old }
-    ensures { Named out.old out.new at result [] n }
-{
-    let mut digits = [0u8; 20];
-    let k = io::decimal(n, &mut digits);
-    put(out, at, &digits[..k])
-}
+    pub fn number(&mut self, n: u64)
+        requires { HasRoom self.old 20 }
+        ensures { WritesNamed self.old self.new [] n }
+    {
+        let mut digits = [0u8; 20];
+        let count = io::decimal(n, &mut digits);
+        self.put(&digits[..count]);
+    }
 
-// A word, and a number behind it.
-pub fn put_named(out: &mut [u8], at: usize, word: &[u8], n: u64) -> usize
-    requires { at + length word.now + 20 ≤ length out.old }
-    ensures { Named out.old out.new at result word.now n }
-{
-    let behind = put(out, at, word);
-    put_number(out, behind, n)
-}
+    // A word, and a number behind it.
+    pub fn named(&mut self, word: &[u8], n: u64)
+        requires { HasRoom self.old (length word.now + 20) }
+        ensures { WritesNamed self.old self.new word.now n }
+    {
+        self.put(word);
+        self.number(n);
+    }
 
-// A line of two numbers.
-pub fn put_pair(out: &mut [u8], at: usize, a: u64, b: u64) -> usize
-    requires { at + 42 ≤ length out.old }
-    ensures { Wrote out.old out.new at result (pair_line a b) }
-{
-    let mut behind = put_number(out, at, a);
-    behind = put_named(out, behind, b" ", b);
-    put(out, behind, b"\n")
-}
+    // A line of two numbers.
+    pub fn pair(&mut self, a: u64, b: u64)
+        requires { HasRoom self.old 42 }
+        ensures { Writes self.old self.new (pair_line a b) }
+    {
+        self.number(a);
+        self.named(b" ", b);
+        self.put(b"\n");
+    }
 
-// The text of a refusal, at the output's start.
-pub fn refused(out: &mut [u8], number: u32, detail: u32) -> usize
-    requires { 64 ≤ length out.old }
-    ensures { Wrote out.old out.new 0 result (refused_text number detail) }
-{
-    let mut at = put_named(out, 0, b"refused ", number as u64);
-    at = put_named(out, at, b" ", detail as u64);
-    put(out, at, b"\n")
+    // The line of a refusal.
+    pub fn refused(&mut self, number: u32, detail: u32)
+        requires { HasRoom self.old 64 }
+        ensures { Writes self.old self.new (refused_text number detail) }
+    {
+        self.named(b"refused ", u64::from(number));
+        self.named(b" ", u64::from(detail));
+        self.put(b"\n");
+    }
 }

@@ -1,12 +1,10 @@
 -- P1 to P12 (document 01, "Worked files, and the edges"): one table, one statement, by computation.
 -- A row is a file, a question about it, and the answer that 01 gives.
-use Rattle.std.specs.Prelude.{◌≡◌, refl, cond, List, [], ◌∷◌, map, ℕ, eqb, length}
+use Rattle.std.specs.Prelude.{Ok, Err, ◌≡◌, refl, cond, List, [], ◌∷◌, map, ℕ, eqb, length}
 use Rattle.meaning.specs.Meaning.{Literal, Program, Share, total, holds, weight_of, given}
 use Rattle.format.specs.Bytes.{u16, u32}
 use Rattle.format.specs.File.{decode}
-use Rattle.format.specs.Refusals.{verdict, number}
-use Rattle.format.specs.declared.Verdict.{Verdict}
-use Rattle.format.specs.declared.Verdict.TheVariants.{Accepted, Refused}
+use Rattle.format.specs.Refusals.{Verdict, verdict, number}
 use Rattle.diagram.specs.Diagram.{eval, combine, negate, diagram_of}
 use Rattle.diagram.specs.Listing.{listing}
 use Rattle.rounds.specs.Layers.{lowest_above, atoms_from}
@@ -73,8 +71,8 @@ unfolding ask decode verdict
 answer s q = go (verdict s)
   where
     go : Verdict → Answer
-    go (Accepted f d r t) = ask (decode s) q
-    go (Refused w) = refused (number w)
+    go (Ok a) = ask (decode s) q
+    go (Err w) = refused (number w)
 
 -- ---- the table
 

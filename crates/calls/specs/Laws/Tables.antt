@@ -1,5 +1,5 @@
 -- Tables of refusals, row by row: a way out of a call is a chain of rows that are not due, ended by one that is or by the answer.
-use Rattle.std.specs.Prelude.{◌≡◌, refl, Bool, true, false, not, cond, ℕ}
+use Rattle.std.specs.Prelude.{◌≡◌, refl, Bool, true, false, not, cond, ℕ, Result, Ok, Err}
 use Rattle.std.proofs.Math.Path.{sym, ap}
 use Rattle.std.proofs.Common.{◌∙◌}
 use mathlib.Core.List.{List, [], ◌∷◌}
@@ -9,6 +9,7 @@ use Rattle.rounds.specs.Layers.{next_layer}
 use Rattle.rounds.specs.Close.{changed, Closing, closed, unsettled, check_full, judged, check}
 use Rattle.state.specs.Hand.{Hand, room, store}
 use Rattle.calls.specs.Refusals.{Table, answering, check_tests}
+use Rattle.calls.specs.declared.refusal.Refusal.{Refusal}
 
 -- a call with this table gives u (a record, so that its arguments are found)
 pub record Gives {A : Type 0} (ts : Table) (refuse : ℕ → ℕ → A) (answer u : A) : Type 0 where
@@ -55,6 +56,12 @@ module _ {A : Type 0} {refuse : ℕ → ℕ → A} {answer u : A} where
     -- and what fits goes on
     pub fitting : fit ≡ true → Gives ts refuse answer u → Gives ((36, 0, not fit) ∷ ts) refuse answer u
     fitting e = skip (ap not e)
+
+-- ---- what a crate below gives, with its reasons as the call's
+
+abbrev pub turned : {T W : Type 0} → (W → Refusal) → Result T W → Result T Refusal
+turned why (Ok x) = Ok x
+turned why (Err w) = Err (why w)
 
 -- ---- an answer that is carried along, refusals and all
 

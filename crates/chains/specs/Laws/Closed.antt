@@ -7,7 +7,9 @@ use Rattle.format.specs.File.{F, D, R, decode}
 use Rattle.format.specs.Passed.{Formed}
 use Rattle.format.specs.Laws.Decoded.{decode-rules}
 use Rattle.chains.specs.Layering.{rule_of, Link, Links, Chain, OnChain}
-use Rattle.chains.specs.Searching.{leads, SearchAsked, SearchDone, LowestAsked, LowestDone, Room}
+use Rattle.chains.specs.Searching.{leads, SearchAsked, SearchDone, LowestAsked, LowestDone}
+use Rattle.chains.specs.declared.search.Search.{Search}
+use Rattle.index.specs.declared.Rules.{Rules}
 use Rattle.chains.specs.Laws.Around.{links-both, flag-both}
 use Rattle.chains.specs.Laws.Lead.{head-is, leads-atom, leads-flag, leads-below}
 
@@ -21,10 +23,10 @@ or_turn false false true e = refl
 or_turn false false false e = e
 
 -- atom a is reached, past a negated link or not
-record At (s entry : List ℕ) (a : ℕ) (flag : Bool) : Type 0 where
+record At (s : List ℕ) (found : Search) (a : ℕ) (flag : Bool) : Type 0 where
   place : ℕ
   low : place < 2 * D s
-  reached : 0 < get_or entry place 0
+  reached : 0 < get_or found.entry place 0
   atom_is : a ≡ F s + place / 2
   flag_is : place % 2 ≡ cond flag 1 0
 
@@ -41,10 +43,10 @@ links-rule s (Links.next t ts) = omega (arith, t.from, decode-rules s)
 on-derived : {s : List ℕ} {b : ℕ} → Formed s → OnChain (decode s) b → (F s ≤ b) × (b < F s + D s)
 on-derived {s} f o = rw o.head at (head-derived f o.first (links-rule s o.chain))
 
-module _ {s : List ℕ} (f : Formed s) {x : ℕ} {queue from by entry : List ℕ} {n : ℕ} (d : SearchDone s x queue from by entry n) where
+module _ {s : List ℕ} (f : Formed s) {x : ℕ} {found : Search} (d : SearchDone s x found) where
   -- a link leads from a place reached to another, where the next head is not below x
   link_at : {j k : ℕ} {a b : Bool} → Link (decode s) j k b → x ≤ (rule_of (decode s) k).head →
-      At s entry (rule_of (decode s) j).head a → At s entry (rule_of (decode s) k).head (a || b)
+      At s found (rule_of (decode s) j).head a → At s found (rule_of (decode s) k).head (a || b)
   link_at {j} {k} {a} {b} t h p =
       let l = t.literal in
       let jr : j < R s = omega (arith, t.from, decode-rules s) in
@@ -67,8 +69,8 @@ module _ {s : List ℕ} (f : Formed s) {x : ℕ} {queue from by entry : List ℕ
     -- along a chain from rule i, from its rule j on to the end
     along : {i : ℕ} {is : List ℕ} {a : Bool} {j : ℕ} {js : List ℕ} {b : Bool} →
         x ≤ (rule_of (decode s) i).head → Links (decode s) j (i ∷ is) a → Links (decode s) i (j ∷ js) b → a || b ≡ true →
-        At s entry (rule_of (decode s) j).head a → At s entry (rule_of (decode s) i).head true
-    along {i} h before (Links.last t) e p = subst (At s entry (rule_of (decode s) i).head) e (link_at t h p)
+        At s found (rule_of (decode s) j).head a → At s found (rule_of (decode s) i).head true
+    along {i} h before (Links.last t) e p = subst (At s found (rule_of (decode s) i).head) e (link_at t h p)
     along {i} {is} {a} {j} h before (Links.next {i = k} {js = js} {b = b} {c = c} t ts) e p =
         let far = links-both before (Links.last t) in
         let round : OnChain (decode s) (rule_of (decode s) k).head = record {
@@ -85,8 +87,8 @@ module _ {s : List ℕ} (f : Formed s) {x : ℕ} {queue from by entry : List ℕ
 
     -- so from its first rule on it comes back to that one's head past a negated link
     round : {i : ℕ} {is : List ℕ} {b : Bool} → x ≤ (rule_of (decode s) i).head → Links (decode s) i (i ∷ is) b → b ≡ true →
-        At s entry (rule_of (decode s) i).head false → At s entry (rule_of (decode s) i).head true
-    round {i} h (Links.last t) e p = subst (At s entry (rule_of (decode s) i).head) e (link_at t h p)
+        At s found (rule_of (decode s) i).head false → At s found (rule_of (decode s) i).head true
+    round {i} h (Links.last t) e p = subst (At s found (rule_of (decode s) i).head) e (link_at t h p)
     round {i} h (Links.next {i = k} {js = js} {b = b} {c = c} t ts) e p =
         let far : Links (decode s) k (i ∷ []) b = Links.last t in
         let on : OnChain (decode s) (rule_of (decode s) k).head = record {
@@ -98,12 +100,12 @@ module _ {s : List ℕ} (f : Formed s) {x : ℕ} {queue from by entry : List ℕ
         along h far ts e (link_at t (on-high on) p)
 
     -- where x was not reached so, it is on no chain
-    not_on : F s ≤ x → x < F s + D s → get_or entry (2 * (x - F s) + 1) 0 ≤ 0 → OnChain (decode s) x → ⊥
+    not_on : F s ≤ x → x < F s + D s → get_or found.entry (2 * (x - F s) + 1) 0 ≤ 0 → OnChain (decode s) x → ⊥
     not_on low high none o =
         let t = d.tables.trail in
         let place : 2 * (x - F s) < 2 * D s = omega arith in
-        let begin : get_or entry (2 * (x - F s)) 0 ≡ 1 = rw t.first at (t.entries 0 t.some) in
-        let here : At s entry (rule_of (decode s) o.first).head false = record {
+        let begin : get_or found.entry (2 * (x - F s)) 0 ≡ 1 = rw t.first at (t.entries 0 t.some) in
+        let here : At s found (rule_of (decode s) o.first).head false = record {
           place = 2 * (x - F s);
           low = place;
           reached = omega (arith, begin);
@@ -115,7 +117,7 @@ module _ {s : List ℕ} (f : Formed s) {x : ℕ} {queue from by entry : List ℕ
         omega (arith, rw there at back.reached)
 
     -- and no lower atom is
-    free-next : F s ≤ x → x < F s + D s → get_or entry (2 * (x - F s) + 1) 0 ≤ 0 → (b : ℕ) → b < x + 1 → OnChain (decode s) b → ⊥
+    free-next : F s ≤ x → x < F s + D s → get_or found.entry (2 * (x - F s) + 1) 0 ≤ 0 → (b : ℕ) → b < x + 1 → OnChain (decode s) b → ⊥
     free-next low high none b h o = elim (ℕ_discrete b x) [
       | yes e ↦ not_on low high none (rw e at o)
       | no c ↦ free b (omega arith) o
@@ -124,62 +126,51 @@ module _ {s : List ℕ} (f : Formed s) {x : ℕ} {queue from by entry : List ℕ
 -- ---- the atoms, one after another
 
 -- no atom below x is on a chain
-pub record Seeking (s : List ℕ) (x : ℕ) (queue from by entry : List ℕ) : Type 0 where
+pub record Seeking (s : List ℕ) (x : ℕ) : Type 0 where
   pub low : F s ≤ x
   pub free : (b : ℕ) → b < x → OnChain (decode s) b → ⊥
-  pub room : Room queue from by entry
 
-module _
-    {s starts later firsts : List ℕ} {facts derived : ℕ} {queue from by entry : List ℕ}
-    (q : LowestAsked s starts later firsts facts derived queue from by entry)
-  where
-    -- no fact is on a chain
-    pub lowest_start : Seeking s facts queue from by entry
-    lowest_start = record {
-      low = omega (arith, q.facts_are);
-      free = λ b h o. omega (arith, q.facts_are, (on-derived q.formed o).0);
-      room = q.room;
-    }
+module _ {s : List ℕ} {rules : Rules} (q : LowestAsked s rules) where
+  -- no fact is on a chain
+  pub lowest_start : Seeking s (F s)
+  lowest_start = record {
+    low = omega arith;
+    free = λ b h o. omega (arith, (on-derived q.indexed.formed o).0);
+  }
 
-    module _ {x : ℕ} {queue₁ from₁ by₁ entry₁ : List ℕ} (v : Seeking s x queue₁ from₁ by₁ entry₁) where
-      -- the loop does not run off the end: some atom is on a chain
-      pub lowest-ends : facts + derived ≤ x → ⊥
-      lowest-ends h = past q.some.0 q.some.1
-        where
-          past : (js : List ℕ) → Chain (decode s) js → ⊥
-          past [] c = elim c [ ]
-          past (j ∷ js) c =
-              let o : OnChain (decode s) (rule_of (decode s) j).head = record { first = j; others = js; chain = c; head = refl } in
-              v.free (rule_of (decode s) j).head
-              (omega (arith, q.facts_are, q.derived_are, (on-derived q.formed o).1)) o
+  module _ {x : ℕ} (v : Seeking s x) where
+    -- the loop does not run off the end: some atom is on a chain
+    pub lowest-ends : F s + D s ≤ x → ⊥
+    lowest-ends h = past q.some.0 q.some.1
+      where
+        past : (js : List ℕ) → Chain (decode s) js → ⊥
+        past [] c = elim c [ ]
+        past (j ∷ js) c =
+            let o : OnChain (decode s) (rule_of (decode s) j).head = record { first = j; others = js; chain = c; head = refl } in
+            v.free (rule_of (decode s) j).head (omega (arith, (on-derived q.indexed.formed o).1)) o
 
-      module _ (more : x < facts + derived) where
-        high : x < F s + D s
-        high = omega (arith, q.facts_are, q.derived_are)
+    module _ (high : x < F s + D s) where
+      pub lowest-asked : SearchAsked s rules x
+      lowest-asked = record { indexed = q.indexed; low = v.low; high = high }
 
-        pub lowest-asked : SearchAsked s starts later firsts x queue₁ from₁ by₁ entry₁
-        lowest-asked = record { formed = q.formed; index = q.index; low = v.low; high = high; room = v.room }
+      -- its place is one of the table's
+      pub lowest-place : {facts : ℕ} → facts ≡ F s → 2 * (x - facts) + 1 < 1024
+      lowest-place f = omega (arith, v.low, q.indexed.formed.derived)
 
-        -- its place is one of the table's
-        pub lowest-place : 2 * (x - facts) + 1 < 1024
-        lowest-place = omega (arith, high, v.low, q.facts_are, q.formed.derived)
+      module _ {facts : ℕ} (f : facts ≡ F s) {found : Search} (d : SearchDone s x found) where
+        -- x was reached past a negated link,
+        pub lowest-found : 0 < get_or found.entry (2 * (x - facts) + 1) 0 → LowestDone s found x
+        lowest-found h = record {
+          low = v.low;
+          high = high;
+          tables = d.tables;
+          reached = rw f at h;
+          lowest = λ b o. on-high q.indexed.formed d v.free o;
+        }
 
-        module _ {queue₂ from₂ by₂ entry₂ : List ℕ} {n : ℕ} (d : SearchDone s x queue₂ from₂ by₂ entry₂ n) where
-          -- x was reached past a negated link,
-          pub lowest-found : 0 < get_or entry₂ (2 * (x - facts) + 1) 0 → LowestDone s queue₂ from₂ by₂ entry₂ x
-          lowest-found h = record {
-            low = v.low;
-            high = high;
-            count = n;
-            tables = d.tables;
-            reached = rw q.facts_are at h;
-            lowest = λ b o. on-high q.formed d v.free o;
-          }
-
-          -- or it is on no chain
-          pub lowest-next : get_or entry₂ (2 * (x - facts) + 1) 0 ≤ 0 → Seeking s (x + 1) queue₂ from₂ by₂ entry₂
-          lowest-next h = record {
-            low = omega (arith, v.low);
-            free = free-next q.formed d v.free v.low high (rw q.facts_are at h);
-            room = d.tables.room;
-          }
+        -- or it is on no chain
+        pub lowest-next : get_or found.entry (2 * (x - facts) + 1) 0 ≤ 0 → Seeking s (x + 1)
+        lowest-next h = record {
+          low = omega (arith, v.low);
+          free = free-next q.indexed.formed d v.free v.low high (rw f at h);
+        }

@@ -33,7 +33,9 @@ use Rattle.index.specs.Index.{Index}
 use Rattle.chains.specs.Layering.{rule_of, Link, Links, Chain}
 use Rattle.chains.specs.Calls.{Step, Trail, way_to, FindAsked}
 use Rattle.chains.specs.Written.{ChainDone}
-use Rattle.chains.specs.Searching.{Room, Falls, RulesAsked, RulesDone, LowestAsked, LowestDone}
+use Rattle.index.specs.declared.Rules.{Rules}
+use Rattle.chains.specs.declared.search.Search.{Search}
+use Rattle.chains.specs.Searching.{Falls, RulesAsked, RulesDone, LowestAsked, LowestDone}
 use Rattle.chains.specs.Laws.Around.{links-both, flag-both}
 use Rattle.chains.specs.Laws.Places.{trail-few}
 use Rattle.chains.specs.Laws.Way.{way-none, way-one, way-short}
@@ -87,25 +89,26 @@ way-further {j = j} w t = record {
   links = λ r h d. links-both (w.links j t.is_rule t.head) (Links.last (step-link t r h d));
 }
 
-module _ {s : List ℕ} {x : ℕ} {queue from by entry : List ℕ} {count : ℕ} (t : Trail s x queue from by entry count) (low : F s ≤ x) where
+module _ {s : List ℕ} {x : ℕ} {found : Search} (t : Trail s x found) (low : F s ≤ x) where
   -- so the way to an entry goes by the one before it,
-  way_next : (most k : ℕ) → 0 < k → k < count →
-      (0 < get_or from k 0 → Way s x (way_to most from by (get_or from k 0)) (get_or queue (get_or from k 0) 0)) →
-      Way s x (way_to most from by (get_or from k 0) ++ (get_or by k 0 ∷ [])) (get_or queue k 0)
+  way_next : (most k : ℕ) → 0 < k → k < found.count →
+      (0 < get_or found.from k 0 → Way s x (way_to most found.from found.by (get_or found.from k 0)) (get_or found.queue
+      (get_or found.from k 0) 0)) →
+      Way s x (way_to most found.from found.by (get_or found.from k 0) ++ (get_or found.by k 0 ∷ [])) (get_or found.queue k 0)
   way_next most k h l before =
       let step = (t.back k h l).1 in
-      elim (ℕ_discrete (get_or from k 0) 0) [
-        | yes e ↦ rw (e, way-none most from by) (way-start low t.first (rw e at step))
+      elim (ℕ_discrete (get_or found.from k 0) 0) [
+        | yes e ↦ rw (e, way-none most found.from found.by) (way-start low t.first (rw e at step))
         | no o ↦ way-further (before (omega arith)) step
       ]
 
   -- whichever entry but the first
-  way_of : (most k : ℕ) → 0 < k → k < count → k ≤ most → Way s x (way_to most from by k) (get_or queue k 0)
+  way_of : (most k : ℕ) → 0 < k → k < found.count → k ≤ most → Way s x (way_to most found.from found.by k) (get_or found.queue k 0)
   way_of zero k h l z = absurd (omega arith)
   way_of (suc most) k h l z =
       let fall = (t.back k h l).0 in
-      subst (λ way. Way s x way (get_or queue k 0)) (sym (way-one most from by k h))
-      (way_next most k h l (λ p. way_of most (get_or from k 0) p (omega arith) (omega arith)))
+      subst (λ way. Way s x way (get_or found.queue k 0)) (sym (way-one most found.from found.by k h))
+      (way_next most k h l (λ p. way_of most (get_or found.from k 0) p (omega arith) (omega arith)))
 
 -- the way that leads back to x with a negated link is a chain
 way-chain : {s : List ℕ} {x : ℕ} {way : List ℕ} → F s ≤ x → (w : Way s x way (2 * (x - F s) + 1)) → Chain (decode s) (w.first ∷ w.others)
@@ -118,80 +121,68 @@ way-chain {s} {x} {way} low w =
     yes-one true e = refl
     yes-one false e = let z : ◌≡◌ {A = ℕ} 0 1 = e in absurd (omega arith)
 
-module _ {s out : List ℕ} {facts derived rules : ℕ} (q : FindAsked s out facts derived rules) where
-  pub lowest-asked : {starts later firsts queue from by entry : List ℕ} → Index s starts later firsts → Room queue from by entry →
-      LowestAsked s starts later firsts facts derived queue from by entry
-  lowest-asked i r = record {
-    formed = q.sized.formed;
-    facts_are = q.sized.facts_are;
-    derived_are = q.sized.derived_are;
-    index = i;
-    some = q.some;
-    room = r;
-  }
+module _ {s out : List ℕ} (q : FindAsked s out) where
+  pub lowest-asked : {rules : Rules} → Index s rules.starts rules.later rules.first → LowestAsked s rules
+  lowest-asked i = record { indexed = record { formed = q.formed; index = i }; some = q.some }
 
-  module _ {queue from by entry : List ℕ} {a : ℕ} (d : LowestDone s queue from by entry a) where
+  module _ {facts : ℕ} (f : facts ≡ F s) {found : Search} {a : ℕ} (d : LowestDone s found a) where
     pub atom-from : facts ≤ a
-    atom-from = omega (arith, q.sized.facts_are, d.low)
+    atom-from = omega (arith, d.low)
 
     pub atom-small : a < 544
-    atom-small = omega (arith, d.high, q.sized.formed.facts, q.sized.formed.derived)
+    atom-small = omega (arith, d.high, q.formed.facts, q.formed.derived)
 
     pub last-place : 2 * (a - facts) + 1 < 1024
-    last-place = omega (arith, q.sized.facts_are, d.low, d.high, q.sized.formed.derived)
+    last-place = omega (arith, d.low, d.high, q.formed.derived)
 
-    module _ {e : ℕ} (cell : e ≡ get_or entry (2 * (a - facts) + 1) 0) where
-      cell-is : e ≡ get_or entry (2 * (a - F s) + 1) 0
-      cell-is = cell ∙ ap (λ f. get_or entry (2 * (a - f) + 1) 0) q.sized.facts_are
+    abbrev last : ℕ
+    last = get_or found.entry (2 * (a - facts) + 1) 0
 
-      -- it was reached
-      pub last-reached : 0 < e
-      last-reached = omega (arith, cell-is, d.reached)
+    last-is : last ≡ get_or found.entry (2 * (a - F s) + 1) 0
+    last-is = ap (λ n. get_or found.entry (2 * (a - n) + 1) 0) f
 
-      at_last : (e ≤ d.count) × (get_or queue (e - 1) 0 ≡ 2 * (a - F s) + 1)
-      at_last = rw (← cell-is) at (d.tables.trail.reached (2 * (a - F s) + 1) (omega (arith, d.low, d.high)) d.reached)
+    -- it was reached
+    pub last-reached : 0 < last
+    last-reached = omega (arith, last-is, d.reached)
 
-      -- by another entry than the first
-      not_first : 0 < e - 1
-      not_first = elim (ℕ_discrete (e - 1) 0) [
-        | yes z ↦ absurd (omega (arith, rw z at at_last.1, d.tables.trail.first))
-        | no o ↦ omega arith
-      ]
+    at_last : (last ≤ found.count) × (get_or found.queue (last - 1) 0 ≡ 2 * (a - F s) + 1)
+    at_last = rw (← last-is) at (d.tables.trail.reached (2 * (a - F s) + 1) (omega (arith, d.low, d.high)) d.reached)
 
-      last-few : e ≤ 1024
-      last-few = omega (arith, at_last.0, trail-few d.tables.trail, q.sized.formed.derived)
+    -- by another entry than the first
+    not_first : 0 < last - 1
+    not_first = elim (ℕ_discrete (last - 1) 0) [
+      | yes z ↦ absurd (omega (arith, rw z at at_last.1, d.tables.trail.first))
+      | no o ↦ omega arith
+    ]
 
-      last-falls : Falls from (e - 1)
-      last-falls = record {
-        few = omega (arith, last-few, last-reached);
-        back = λ i h l. (d.tables.trail.back i h (omega (arith, last-reached, at_last.0))).0;
-      }
+    last-few : last ≤ 1024
+    last-few = omega (arith, at_last.0, trail-few d.tables.trail, q.formed.derived)
 
-      pub rules-asked : RulesAsked from by out (e - 1)
-      rules-asked = record {
-        falls = last-falls;
-        small = λ i h l.
-            let step = (d.tables.trail.back i h (omega (arith, last-reached, at_last.0))).1 in
-            omega (arith, step.is_rule, q.sized.formed.rules);
-        room = q.room;
-      }
+    last-falls : Falls found.from (last - 1)
+    last-falls = record {
+      few = omega (arith, last-few, last-reached);
+      back = λ i h l. (d.tables.trail.back i h (omega (arith, last-reached, at_last.0))).0;
+    }
 
-      module _ {out₁ : List ℕ} {n : ℕ} (w : RulesDone from by out out₁ (e - 1) n) where
-        pub chain-few : n ≤ 1023
-        chain-few = omega (arith, w.count, way-short last-falls by (e - 1) (e - 1) (omega arith), last-few)
+    pub rules-asked : RulesAsked found out (last - 1)
+    rules-asked = record { falls = last-falls; room = q.room }
 
-        pub chain-done : ChainDone s out out₁ a n
-        chain-done =
-            let below : e - 1 < d.count = omega (arith, last-reached, at_last.0) in
-            let way = way_of d.tables.trail d.low (e - 1) (e - 1) not_first below (omega arith) in
-            let there = rw at_last.1 at way in
-            record {
-              first = there.first;
-              others = there.others;
-              chain = way-chain d.low there;
-              head = there.head;
-              lowest = d.lowest;
-              count = w.count ∙ ap length there.is;
-              few = chain-few;
-              bytes = rw there.is at w.bytes;
-            }
+    module _ {out₁ : List ℕ} {n : ℕ} (w : RulesDone found out out₁ (last - 1) n) where
+      pub chain-few : n ≤ 1023
+      chain-few = omega (arith, w.count, way-short last-falls found.by (last - 1) (last - 1) (omega arith), last-few)
+
+      pub chain-done : ChainDone s out out₁ a n
+      chain-done =
+          let below : last - 1 < found.count = omega (arith, last-reached, at_last.0) in
+          let way = way_of d.tables.trail d.low (last - 1) (last - 1) not_first below (omega arith) in
+          let there = rw at_last.1 at way in
+          record {
+            first = there.first;
+            others = there.others;
+            chain = way-chain d.low there;
+            head = there.head;
+            lowest = d.lowest;
+            count = w.count ∙ ap length there.is;
+            few = chain-few;
+            bytes = rw there.is at w.bytes;
+          }

@@ -1,6 +1,6 @@
 -- Where a literal leads: to a place that is left out, as its atom is below the first, or known, or put behind those known.
-use Rattle.std.specs.Prelude.{◌≡◌, Bool, true, false, cond, List, ℕ, ◌+◌, ◌*◌, ◌-◌, ◌/◌, ◌%◌, ◌≤◌, ◌<◌, eqb, length, get_or, set}
-use Rattle.std.proofs.Common.{sym, arith}
+use Rattle.std.specs.Prelude.{◌≡◌, Bool, true, false, cond, List, ℕ, ◌+◌, ◌*◌, ◌-◌, ◌/◌, ◌%◌, ◌≤◌, ◌<◌, eqb, length, get_or}
+use Rattle.std.proofs.Common.{refl, sym, arith}
 use Rattle.std.proofs.Math.Path.{ap}
 use Rattle.meaning.specs.Lists.{upto}
 use Rattle.meaning.proofs.Laws.Tests.{get_or-upto}
@@ -11,7 +11,8 @@ use Rattle.format.specs.Passed.{Formed}
 use Rattle.index.specs.Index.{head_at}
 use Rattle.chains.specs.Layering.{rule_of}
 use Rattle.chains.specs.Calls.{Step}
-use Rattle.chains.specs.Searching.{Grown, leads, Led, LeadAsked, LeadDone}
+use Rattle.chains.specs.declared.search.Search.{Search}
+use Rattle.chains.specs.Searching.{Grown, with_place, AddAsked, leads, Led, LeadAsked, LeadDone}
 use Rattle.chains.specs.Laws.Places.{trail-few, trail-less, grown-none, new-tables, new-grown, new-reached}
 
 -- ---- what stands in the file
@@ -22,7 +23,7 @@ counts-inside f = omega (arith, f.fits)
 
 module _ (s : List ℕ) where
   -- and the rules
-  rule_is : (j : ℕ) → j < R s → rule_of (decode s) j ≡ rule_at s (start_of s j)
+  pub rule_is : (j : ℕ) → j < R s → rule_of (decode s) j ≡ rule_at s (start_of s j)
   unfolding decode
   rule_is j h = get_or-upto (R s) (λ i. rule_at s (start_of s i)) _ j h
 
@@ -55,71 +56,74 @@ module _ (s : List ℕ) (p : ℕ) (l : Literal) (low : F s ≤ l.atom) where
   leads-below h = omega (arith, bit l.negated p)
 
 -- what is led to stays so
-pub led-grown : {s : List ℕ} {x p j : ℕ} {queue entry queue₁ entry₁ : List ℕ} {count count₁ : ℕ} →
-    Grown queue entry count queue₁ entry₁ count₁ → Led s x entry p j → Led s x entry₁ p j
+pub led-grown : {s : List ℕ} {x p j : ℕ} {found found₁ : Search} → Grown found found₁ → Led s x found p j → Led s x found₁ p j
 led-grown g d = record { each = λ l m h. g.still _ (d.each l m h) }
 
 -- ---- a literal
 
-module _
-    {s : List ℕ} {at facts x rule k count : ℕ} {queue from by entry : List ℕ}
-    (q : LeadAsked s at facts x rule k count queue from by entry) {lit : ℕ} (read : lit ≡ u16 s at)
-  where
-    -- the entry that it leads from is one of the tables',
-    pub lead-entry : k < 1024
-    lead-entry = omega (arith, q.going.known, q.going.formed.derived, trail-few q.going.tables.trail)
+module _ {s : List ℕ} {lit x rule k : ℕ} {found : Search} (q : LeadAsked s lit x rule k found) where
+  -- the entry that it leads from is one of the tables',
+  pub lead-entry : k < 1024
+  lead-entry = omega (arith, q.going.known, q.going.formed.derived, trail-few q.going.tables.trail)
 
-    -- and its atom is below x,
-    pub lead_low : lit / 2 < x → LeadDone s at x k count queue entry queue from by entry count
-    unfolding literal
-    lead_low h = record {
-      tables = q.going.tables;
-      grown = grown-none;
-      led = λ l. absurd (omega arith);
-    }
+  -- and its atom is below x,
+  pub lead_low : lit / 2 < x → LeadDone s lit x k found found
+  unfolding literal
+  lead_low h = record {
+    tables = q.going.tables;
+    grown = grown-none;
+    led = λ l. absurd (omega arith);
+  }
 
-    module _ {p f : ℕ} (cell : p ≡ get_or queue k 0) (flag : f ≡ cond (eqb (lit % 2) 1) 1 (p % 2)) (high : x ≤ lit / 2) where
-      atom-low : F s ≤ (literal (u16 s at)).atom
+  module _
+      {facts p f : ℕ} (facts_are : facts ≡ F s) (cell : p ≡ get_or found.queue k 0)
+      (flag : f ≡ cond (eqb (lit % 2) 1) 1 (p % 2)) (high : x ≤ lit / 2)
+    where
+      atom-low : F s ≤ (literal lit).atom
       unfolding literal
       atom-low = omega (arith, q.going.low)
 
-      place_is : 2 * (lit / 2 - facts) + f ≡ leads s (get_or queue k 0) (literal (u16 s at))
+      place_is : 2 * (lit / 2 - facts) + f ≡ leads s (get_or found.queue k 0) (literal lit)
       unfolding literal
-      place_is = rw (flag, cell, read, q.going.facts_are)
+      place_is = rw (flag, cell, facts_are) refl
 
       -- or else the place is one of a derived atom,
       pub place-low : 2 * (lit / 2 - facts) + f < 2 * D s
-      place-low = rw place_is (leads-below s (get_or queue k 0) (literal (u16 s at)) atom-low q.known_atom)
+      place-low = rw place_is (leads-below s (get_or found.queue k 0) (literal lit) atom-low q.known_atom)
 
       -- which is reached already,
-      pub lead-known : 0 < get_or entry (2 * (lit / 2 - facts) + f) 0 → LeadDone s at x k count queue entry queue from by entry count
+      pub lead-known : 0 < get_or found.entry (2 * (lit / 2 - facts) + f) 0 → LeadDone s lit x k found found
       lead-known h = record { tables = q.going.tables; grown = grown-none; led = λ l. rw place_is at h }
 
-      module _ (new : get_or entry (2 * (lit / 2 - facts) + f) 0 ≤ 0) where
+      module _ (new : get_or found.entry (2 * (lit / 2 - facts) + f) 0 ≤ 0) where
         -- or is put behind those known, for which there is room
-        pub lead-room : count < 1024
-        lead-room =
+        pub lead-asked : AddAsked (2 * (lit / 2 - facts) + f) k rule found
+        lead-asked =
             let less = trail-less q.going.tables.trail (2 * (lit / 2 - facts) + f) place-low (omega arith) in
-            omega (arith, q.going.formed.derived)
+            let f = q.going.formed in
+            record {
+              room = omega (arith, f.derived);
+              place_low = omega (arith, place-low, f.derived);
+              entry_low = lead-entry;
+              rule_low = omega (arith, q.going.is_rule, f.rules);
+            }
 
-        lead-step : Step s rule (get_or queue k 0) (2 * (lit / 2 - facts) + f)
+        lead-step : Step s rule (get_or found.queue k 0) (2 * (lit / 2 - facts) + f)
         lead-step = record {
           is_rule = q.going.is_rule;
           head = q.going.head;
-          literal = literal (u16 s at);
+          literal = literal lit;
           held = q.held;
-          atom_is = rw place_is (sym (leads-atom s (get_or queue k 0) (literal (u16 s at)) atom-low));
-          flag = rw place_is (leads-flag s (get_or queue k 0) (literal (u16 s at)) atom-low);
+          atom_is = rw place_is (sym (leads-atom s (get_or found.queue k 0) (literal lit) atom-low));
+          flag = rw place_is (leads-flag s (get_or found.queue k 0) (literal lit) atom-low);
         }
 
-        pub lead-new :
-            LeadDone s at x k count queue entry (set queue count (2 * (lit / 2 - facts) + f)) (set from count k) (set by count rule)
-            (set entry (2 * (lit / 2 - facts) + f) (count + 1)) (count + 1)
+        pub lead-new : LeadDone s lit x k found (with_place found (2 * (lit / 2 - facts) + f) k rule)
         lead-new =
             let t = q.going.tables in
             let few = q.going.formed.derived in
             let known = q.going.known in
-            let none : get_or entry (2 * (lit / 2 - facts) + f) 0 ≡ 0 = omega arith in
+            let none : get_or found.entry (2 * (lit / 2 - facts) + f) 0 ≡ 0 = omega arith in
             record {
               tables = new-tables t few known lead-step place-low none;
               grown = new-grown t few known lead-step place-low none;

@@ -7,6 +7,8 @@ use Rattle.meaning.proofs.Laws.Tests.{mem-upto, mem-of-upto}
 use Rattle.format.specs.Bytes.{u16}
 use Rattle.format.specs.File.{F, R, start_of, literal, literal_at}
 use Rattle.index.specs.Index.{head_at, Next}
+use Rattle.index.specs.declared.Rules.{Rules}
+use Rattle.chains.specs.declared.search.Search.{Search}
 use Rattle.chains.specs.Searching.{Tables, Grown, leads, Led, LeadAsked, LeadDone, VisitAsked, VisitDone, ExpandAsked, ExpandDone}
 use Rattle.chains.specs.Laws.Places.{trail-few, grown-none, grown-both}
 use Rattle.chains.specs.Laws.Lead.{head-is, body_is, led-grown}
@@ -15,23 +17,23 @@ use Rattle.chains.specs.Laws.Lead.{head-is, body_is, led-grown}
 
 -- the first i have led to their places
 pub record Visiting
-    (s : List ℕ) (x rule k count : ℕ) (queue entry queue₁ from₁ by₁ entry₁ : List ℕ) (n i : ℕ) : Type 0 where
-  pub tables : Tables s x queue₁ from₁ by₁ entry₁ n
-  pub grown : Grown queue entry count queue₁ entry₁ n
+    (s : List ℕ) (x rule k : ℕ) (found found₁ : Search) (i : ℕ) : Type 0 where
+  pub tables : Tables s x found₁
+  pub grown : Grown found found₁
   pub led :
       (m : ℕ) → m < i → x ≤ (literal_at s (start_of s rule) m).atom →
-      0 < get_or entry₁ (leads s (get_or queue k 0) (literal_at s (start_of s rule) m)) 0
+      0 < get_or found₁.entry (leads s (get_or found.queue k 0) (literal_at s (start_of s rule) m)) 0
 
 module _
-    {s : List ℕ} {at facts x rule k count : ℕ} {queue from by entry : List ℕ}
-    (q : VisitAsked s at facts x rule k count queue from by entry)
+    {s : List ℕ} {at x rule k : ℕ} {found : Search}
+    (q : VisitAsked s at x rule k found)
   where
     -- the rule's header lies in the file,
     pub visit-header : at + 4 ≤ length s
     visit-header = rw q.start (q.going.formed.rule rule q.going.is_rule).header
 
     -- and at first no literal has had its turn;
-    pub visit-start : Visiting s x rule k count queue entry queue from by entry count 0
+    pub visit-start : Visiting s x rule k found found 0
     visit-start = record { tables = q.going.tables; grown = grown-none; led = λ m h. absurd (omega arith) }
 
     module _ {len : ℕ} (size : len ≡ u16 s (at + 2)) {i : ℕ} (more : i < len) where
@@ -43,34 +45,31 @@ module _
       unfolding start_of
       visit-room = rw q.start (omega (arith, size_is, (q.going.formed.rule rule q.going.is_rule).inside))
 
-      module _ {queue₁ from₁ by₁ entry₁ : List ℕ} {n : ℕ} (v : Visiting s x rule k count queue entry queue₁ from₁ by₁ entry₁ n i) where
+      module _ {found₁ : Search} (v : Visiting s x rule k found found₁ i) where
         literal-here : literal (u16 s (at + 4 + 2 * i)) ≡ literal_at s (start_of s rule) i
         unfolding literal_at
         literal-here = ap (λ a. literal (u16 s (a + 4 + 2 * i))) q.start
 
-        pub visit-asked : LeadAsked s (at + 4 + 2 * i) facts x rule k n queue₁ from₁ by₁ entry₁
+        pub visit-asked : LeadAsked s (u16 s (at + 4 + 2 * i)) x rule k found₁
         visit-asked =
             let g = q.going in
             let h : i < u16 s (start_of s rule + 2) = omega (arith, size_is) in
             record {
               going = record {
                 formed = g.formed;
-                facts_are = g.facts_are;
                 low = g.low;
                 is_rule = g.is_rule;
                 known = omega (arith, g.known, v.grown.more);
                 head = rw (v.grown.kept k g.known) g.head;
                 tables = v.tables;
               };
-              inside = omega (arith, visit-room);
               held = rw (literal-here, body_is s rule g.is_rule) (mem-upto _ (literal_at s (start_of s rule)) i h);
               known_atom = rw literal-here ((g.formed.rule rule g.is_rule).known i h);
             }
 
         -- leads to its place,
-        pub visit-next : {queue₂ from₂ by₂ entry₂ : List ℕ} {r : ℕ} →
-            LeadDone s (at + 4 + 2 * i) x k n queue₁ entry₁ queue₂ from₂ by₂ entry₂ r →
-            Visiting s x rule k count queue entry queue₂ from₂ by₂ entry₂ r (i + 1)
+        pub visit-next : {found₂ : Search} → LeadDone s (u16 s (at + 4 + 2 * i)) x k found₁ found₂ →
+            Visiting s x rule k found found₂ (i + 1)
         visit-next d = record {
           tables = d.tables;
           grown = grown-both v.grown d.grown;
@@ -83,10 +82,9 @@ module _
         }
 
     -- and in the end each has
-    pub visit-end : {len : ℕ} → len ≡ u16 s (at + 2) → {queue₁ from₁ by₁ entry₁ : List ℕ} {n i : ℕ} →
-        Visiting s x rule k count queue entry queue₁ from₁ by₁ entry₁ n i → len ≤ i →
-        VisitDone s x rule k count queue entry queue₁ from₁ by₁ entry₁ n
-    visit-end {len} size {entry₁ = entry₁} {i = i} v h = record {
+    pub visit-end : {len : ℕ} → len ≡ u16 s (at + 2) → {found₁ : Search} {i : ℕ} →
+        Visiting s x rule k found found₁ i → len ≤ i → VisitDone s x rule k found found₁
+    visit-end {len} size {i = i} v h = record {
       tables = v.tables;
       grown = v.grown;
       led = record {
@@ -101,31 +99,30 @@ module _
 
 -- those before rule j have led to their places, and it is one of them
 pub record Expanding
-    (s : List ℕ) (x k count : ℕ) (queue entry queue₁ from₁ by₁ entry₁ : List ℕ) (n j : ℕ) : Type 0 where
-  pub tables : Tables s x queue₁ from₁ by₁ entry₁ n
-  pub grown : Grown queue entry count queue₁ entry₁ n
+    (s : List ℕ) (x k : ℕ) (found found₁ : Search) (j : ℕ) : Type 0 where
+  pub tables : Tables s x found₁
+  pub grown : Grown found found₁
   pub within : j ≤ R s
-  pub here : j < R s → head_at s j ≡ F s + get_or queue k 0 / 2
-  pub led : (i : ℕ) → i < j → head_at s i ≡ F s + get_or queue k 0 / 2 → Led s x entry₁ (get_or queue k 0) i
+  pub here : j < R s → head_at s j ≡ F s + get_or found.queue k 0 / 2
+  pub led : (i : ℕ) → i < j → head_at s i ≡ F s + get_or found.queue k 0 / 2 → Led s x found₁ (get_or found.queue k 0) i
 
 module _
-    {s starts later firsts : List ℕ} {x k count : ℕ} {queue from by entry : List ℕ}
-    (q : ExpandAsked s starts later firsts x k count queue from by entry)
+    {s : List ℕ} {rules : Rules} {x k : ℕ} {found : Search} (q : ExpandAsked s rules x k found)
   where
     -- the entry is one of the tables',
     pub expand-entry : k < 1024
-    expand-entry = omega (arith, q.known, q.formed.derived, trail-few q.tables.trail)
+    expand-entry = omega (arith, q.known, q.indexed.formed.derived, trail-few q.tables.trail)
 
     -- its atom has a place in the index,
-    pub expand-atom : {facts p : ℕ} → facts ≡ F s → p ≡ get_or queue k 0 → facts + p / 2 < 544
-    expand-atom f e = omega (arith, q.formed.facts, q.formed.derived, q.tables.trail.inside k q.known)
+    pub expand-atom : {facts p : ℕ} → facts ≡ F s → p ≡ get_or found.queue k 0 → facts + p / 2 < 544
+    expand-atom f e = omega (arith, q.indexed.formed.facts, q.indexed.formed.derived, q.tables.trail.inside k q.known)
 
     -- and its first rule is the first to have its turn
-    pub expand-start : {facts p j : ℕ} → facts ≡ F s → p ≡ get_or queue k 0 → j ≡ get_or firsts (facts + p / 2) 0 →
-        Expanding s x k count queue entry queue from by entry count j
+    pub expand-start : {facts p j : ℕ} → facts ≡ F s → p ≡ get_or found.queue k 0 → j ≡ get_or rules.first (facts + p / 2) 0 →
+        Expanding s x k found found j
     expand-start {facts} {p} {j} f e g =
-        let n : Next s (facts + p / 2) 0 j = rw g (q.index.head (facts + p / 2) (expand-atom f e)) in
-        let same : facts + p / 2 ≡ F s + get_or queue k 0 / 2 = rw (e, f) in
+        let n : Next s (facts + p / 2) 0 j = rw g (q.indexed.index.head (facts + p / 2) (expand-atom f e)) in
+        let same : facts + p / 2 ≡ F s + get_or found.queue k 0 / 2 = rw (e, f) in
         record {
           tables = q.tables;
           grown = grown-none;
@@ -135,42 +132,40 @@ module _
         }
 
     module _
-        {queue₁ from₁ by₁ entry₁ : List ℕ} {n j rules : ℕ} (v : Expanding s x k count queue entry queue₁ from₁ by₁ entry₁ n j)
-        (all : rules ≡ R s) (more : j < rules)
+        {found₁ : Search} {j count : ℕ} (v : Expanding s x k found found₁ j)
+        (all : count ≡ R s) (more : j < count)
       where
         below : j < R s
         below = omega arith
 
         -- the rule has a place in the index,
         pub expand-short : j < 2048
-        expand-short = omega (arith, below, q.formed.rules)
+        expand-short = omega (arith, below, q.indexed.formed.rules)
 
         -- may be visited,
-        pub expand-asked : {facts at : ℕ} → facts ≡ F s → at ≡ get_or starts j 0 → VisitAsked s at facts x j k n queue₁ from₁ by₁ entry₁
-        expand-asked f e = record {
+        pub expand-asked : {at : ℕ} → at ≡ get_or rules.starts j 0 → VisitAsked s at x j k found₁
+        expand-asked e = record {
           going = record {
-            formed = q.formed;
-            facts_are = f;
+            formed = q.indexed.formed;
             low = q.low;
             is_rule = below;
             known = omega (arith, q.known, v.grown.more);
             head = rw (v.grown.kept k q.known) (head-is s j below ∙ v.here below);
             tables = v.tables;
           };
-          start = e ∙ q.index.starts_are.start j below;
+          start = e ∙ q.indexed.index.starts_are.start j below;
         }
 
-        after : {i : ℕ} → i ≡ get_or later j 0 → Next s (head_at s j) (j + 1) i
-        after e = rw e (q.index.next j below)
+        after : {i : ℕ} → i ≡ get_or rules.later j 0 → Next s (head_at s j) (j + 1) i
+        after e = rw e (q.indexed.index.next j below)
 
         -- and comes before the next one,
-        pub expand-later : {i : ℕ} → i ≡ get_or later j 0 → j < i
+        pub expand-later : {i : ℕ} → i ≡ get_or rules.later j 0 → j < i
         expand-later e = omega (arith, (after e).from)
 
         -- which is then the first to have its turn;
-        pub expand-next : {queue₂ from₂ by₂ entry₂ : List ℕ} {r i : ℕ} → i ≡ get_or later j 0 →
-            VisitDone s x j k n queue₁ entry₁ queue₂ from₂ by₂ entry₂ r →
-            Expanding s x k count queue entry queue₂ from₂ by₂ entry₂ r i
+        pub expand-next : {found₂ : Search} {i : ℕ} → i ≡ get_or rules.later j 0 →
+            VisitDone s x j k found₁ found₂ → Expanding s x k found found₂ i
         expand-next {i = i} e d =
             let a = after e in
             let p = v.grown.kept k q.known in
@@ -185,18 +180,17 @@ module _
               ];
             }
           where
-            early : {queue₂ from₂ by₂ entry₂ : List ℕ} {r i : ℕ} → Next s (head_at s j) (j + 1) i →
-                VisitDone s x j k n queue₁ entry₁ queue₂ from₂ by₂ entry₂ r →
-                (m : ℕ) → m < i → head_at s m ≡ F s + get_or queue k 0 / 2 → (m ≡ j → ⊥) → Led s x entry₂ (get_or queue k 0) m
+            early : {found₂ : Search} {i : ℕ} → Next s (head_at s j) (j + 1) i →
+                VisitDone s x j k found₁ found₂ →
+                (m : ℕ) → m < i → head_at s m ≡ F s + get_or found.queue k 0 / 2 → (m ≡ j → ⊥) → Led s x found₂ (get_or found.queue k 0) m
             early a d m h l o = elim (dec_lt m j) [
               | yes z ↦ led-grown d.grown (v.led m z l)
               | no z ↦ absurd (a.none m (omega arith) h (l ∙ sym (v.here below)))
             ]
 
     -- in the end all have had theirs
-    pub expand-end : {queue₁ from₁ by₁ entry₁ : List ℕ} {n j rules : ℕ} →
-        Expanding s x k count queue entry queue₁ from₁ by₁ entry₁ n j → rules ≡ R s → rules ≤ j →
-        ExpandDone s x k count queue entry queue₁ from₁ by₁ entry₁ n
+    pub expand-end : {found₁ : Search} {j count : ℕ} →
+        Expanding s x k found found₁ j → count ≡ R s → count ≤ j → ExpandDone s x k found found₁
     expand-end v e h = record {
       tables = v.tables;
       grown = v.grown;

@@ -1,13 +1,11 @@
 -- Demand 1 of the exported calls: each goes by its table of refusals, a refusal leaves what was lent, and an answer is what is in hand's.
-use Rattle.std.specs.Prelude.{◌≡◌, refl, cond, List, [], ◌++◌, ℕ, eqb, length, drop}
+use Rattle.std.specs.Prelude.{Ok, Err, ◌≡◌, refl, cond, List, [], ◌++◌, ℕ, eqb, length, drop}
 use Rattle.std.proofs.Common.{sym, ap, subst, ◌∙◌, inl, inr, arith, eq-eqb, ne_eqb}
 use Rattle.format.specs.Bytes.{Bytes}
-use Rattle.format.specs.Refusals.{verdict}
+use Rattle.format.specs.Refusals.{Verdict, verdict}
 use Rattle.format.specs.Laws.Accepted.{accepted-counts}
 use Rattle.format.specs.Laws.Numbers.{number-range}
 use Rattle.format.specs.Laws.Decoded.{decode-facts, decode-layers}
-use Rattle.format.specs.declared.Verdict.{Verdict}
-use Rattle.format.specs.declared.Verdict.TheVariants.{Accepted, Refused}
 use Rattle.format.specs.File.{decode}
 use Rattle.rounds.specs.Run.{run}
 use Rattle.state.specs.Hand.{Hand, room, store}
@@ -67,7 +65,7 @@ pub ours-read : (s : List ℕ) → Reads s (read_host s)
 ours-read s = go (verdict s) refl
   where
     go : (v : Verdict) → verdict s ≡ v → Reads s (counts v)
-    go (Accepted f d r t) e = record {
+    go (Ok a) e = record {
       refusal = ap file_refusal (sym e);
       detail_is = ap file_detail (sym e);
       counted = λ z.
@@ -75,7 +73,7 @@ ours-read s = go (verdict s) refl
           (facts ∙ sym (decode-facts s), layers ∙ sym (decode-layers s), weight);
       refused = λ n. absurd (n refl);
     }
-    go (Refused w) e = record {
+    go (Err w) e = record {
       refusal = ap file_refusal (sym e);
       detail_is = ap file_detail (sym e);
       counted = λ z. absurd (omega (arith, number-range w));

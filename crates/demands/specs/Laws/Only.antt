@@ -10,7 +10,7 @@ use Rattle.format.specs.Bytes.{Bytes}
 use Rattle.format.specs.File.{decode}
 use Rattle.format.specs.Laws.Decoded.{decode-atoms}
 use Rattle.diagram.specs.Diagram.{Diagram, Good}
-use Rattle.diagram.specs.Listing.{Node}
+use Rattle.diagram.specs.declared.Node.{Node}
 use Rattle.store.specs.Store.{pack, Sound, tree_at, tree_of, nowhere}
 use Rattle.store.specs.Laws.Nodes.{pack-unpack-all}
 use Rattle.store.specs.Laws.Tree.{tree-inj}

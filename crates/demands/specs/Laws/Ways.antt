@@ -2,7 +2,7 @@
 -- are tied here to what update, close and run make of a store.
 use Rattle.std.proofs.Math.Path.{◌≡◌, refl}
 use Rattle.std.proofs.Common.{sym, ap, ◌∙◌, inl, inr, arith}
-use Rattle.std.specs.Prelude.{◌⊎◌, Bool, not, ℕ, ◌≤◌, ◌<◌}
+use Rattle.std.specs.Prelude.{Ok, Err, ◌⊎◌, Bool, not, ℕ, ◌≤◌, ◌<◌}
 use Rattle.std.proofs.Math.Bool.{true, false, cond}
 use mathlib.Core.List.{List, [], ◌∷◌}
 use Rattle.std.proofs.Math.Dec.{ltb}
@@ -11,12 +11,10 @@ use borrow.Author.Tests.{not-false, lt-leb, leb-false, ltb-false, eq-eqb, ne_eqb
 use Rattle.meaning.specs.Meaning.{Program, atoms, layer_of}
 use Rattle.meaning.proofs.Laws.Tests.{length-upto}
 use Rattle.format.specs.File.{decode}
-use Rattle.format.specs.Refusals.{verdict, passes}
+use Rattle.format.specs.Refusals.{Verdict, verdict, passes}
 use Rattle.format.specs.Passed.{Passed}
 use Rattle.format.specs.Laws.Accepted.{passed as accepted-passed}
 use Rattle.format.specs.Laws.Numbers.{number-range}
-use Rattle.format.specs.declared.Verdict.{Verdict}
-use Rattle.format.specs.declared.Verdict.TheVariants.{Accepted, Refused}
 use Rattle.update.specs.Update.{Updated, done, full, update_builds, is_full, after_update, update}
 use Rattle.rounds.specs.Layers.{finished_layer, next_layer, atoms_of, first_layer}
 use Rattle.rounds.specs.Load.{fact_node, loaded_store, load_builds, loaded, load_full, load}
@@ -34,8 +32,8 @@ use Rattle.demands.specs.Laws.Tables.{Numbered, Went, stopped, passed, went}
 -- ---- every row has a number
 
 file-some : (v : Verdict) → not (passes v) ≡ true → file_refusal v ≡ 0 → ⊥
-file-some (Refused w) e z = omega (arith, number-range w)
-file-some (Accepted f d r t) e z = let q : ◌≡◌ {A = ℕ} 0 1 = cc in omega arith
+file-some (Err w) e z = omega (arith, number-range w)
+file-some (Ok a) e z = cc
 
 -- rows with other numbers than 0
 pub some : {n : ℕ} → 0 < n → {b : Bool} → b ≡ true → n ≡ 0 → ⊥
@@ -80,8 +78,8 @@ pub record Loading (s : List ℕ) (l : Lent) : Type 0 where
 
 -- a file that passes has passed
 passes-passed : (s : List ℕ) (v : Verdict) → verdict s ≡ v → not (passes v) ≡ false → Passed s
-passes-passed s (Accepted f d r t) e q = accepted-passed s e
-passes-passed s (Refused w) e q = let z : ◌≡◌ {A = ℕ} 0 1 = cc in absurd (omega arith)
+passes-passed s (Ok a) e q = accepted-passed s e
+passes-passed s (Err w) e q = cc
 
 module _ (s : List ℕ) (l : Lent) where
   abbrev unloaded : Hand

@@ -11,7 +11,8 @@ use Rattle.format.specs.Bytes.{Bytes, u16}
 use Rattle.format.specs.Encode.{two}
 use Rattle.format.specs.Laws.Reading.{Stands, stands-whole, stands-left, stands-right, stands_at, u16-two}
 use Rattle.diagram.specs.Diagram.{Diagram, eval, says, Good}
-use Rattle.diagram.specs.Listing.{Node, Numbered, number, node_bytes, listing, follow, reads}
+use Rattle.diagram.specs.Listing.{Numbered, number, node_bytes, listing, follow, reads}
+use Rattle.diagram.specs.declared.Node.{Node}
 use Rattle.diagram.proofs.Laws.Canon.{canonical}
 use Rattle.diagram.proofs.Laws.Number.{
   At,

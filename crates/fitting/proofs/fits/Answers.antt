@@ -1,34 +1,26 @@
--- `fitting::fits` meets its contract: a refused file and too few places do not fit, and else the store tells.
-use mathlib.Core.Path.{sym}
-use native.Mathlib.Omega.{arith}
-use lib.Seq.{length-take-le}
-use Rattle.fitting.specs.Laws.FitCode.{no-file, no-long, by-store, fit-asked}
+-- `fits` meets its contract: a refused file and too few places do not fit, and else the store tells.
+use Rattle.fitting.specs.Laws.FitCode as laws
 use Rattle.fitting.proofs.fits.Goals as goal
+use Rattle.fitting.proofs.fits.Goals.{then-is_err-via-then-is_err, then-is_err-via-else-is_err+then-places-lt544}
 
-pub returns-then-places-lt544 : goal.returns-then-places-lt544
-returns-then-places-lt544 c =
-    no-long c.args.file.now c.args.nodes.now c.args.places.now _ _ c.if-places-lt544.true
+pub returns-then-is_err : goal.returns-then-is_err
+returns-then-is_err c = elim c.then-is_err.branch [
+  | then-is_err-via-then-is_err w ↦
+      laws.no-file c.args.file.now c.args.nodes.now c.args.places.now _ _ c.check.ensures c.is_err.ensures.value w.if-is_err.true
+  | then-is_err-via-else-is_err+then-places-lt544 w ↦
+      laws.no-long c.args.file.now c.args.nodes.now c.args.places.now _ _ w.if-places-lt544.true
+]
 
-pub slice_bounds-fits_in-end : goal.slice_bounds-fits_in-end
-slice_bounds-fits_in-end c =
-    sym (length-take-le _ c.args.nodes.now (omega arith))
-
-pub slice_bounds-fits_in-end-in-Accepted : goal.slice_bounds-fits_in-end-in-Accepted
-slice_bounds-fits_in-end-in-Accepted c =
-    sym (length-take-le 544 c.args.places.now (omega arith))
+pub of-requires : goal.of-requires
+of-requires c = (laws.accepted c.args.file.now c.check.ensures c.is_err.ensures.value c.if-is_err.false).long
 
 pub fits_in-requires : goal.fits_in-requires
 fits_in-requires c =
-    fit-asked c.args.file.now c.args.nodes.now c.args.places.now
-    c.check.ensures c.in-Accepted.is c.if-places-lt544.false c.room-n.ensures
+    let passed = laws.accepted c.args.file.now c.check.ensures c.is_err.ensures.value c.if-is_err.false in
+    rw c.of.ensures (laws.fit-asked c.args.file.now c.args.nodes.now c.args.places.now passed c.if-places-lt544.false c.room.ensures)
 
-pub returns-else-places-lt544 : goal.returns-else-places-lt544
-returns-else-places-lt544 c =
-    by-store c.args.file.now c.args.nodes.now c.args.places.now _ _
-    c.check.ensures c.in-Accepted.is c.if-places-lt544.false c.room-n.ensures
-    c.fits_in.ensures
-
-pub returns-in-Refused : goal.returns-in-Refused
-returns-in-Refused c =
-    no-file c.args.file.now c.args.nodes.now c.args.places.now _ _
-    c.check.ensures c.in-Refused.is
+pub returns : goal.returns
+returns c =
+    let passed = laws.accepted c.args.file.now c.check.ensures c.is_err.ensures.value c.if-is_err.false in
+    laws.by-store c.args.file.now c.args.nodes.now c.args.places.now _ _ passed c.if-places-lt544.false c.room.ensures
+    (rw c.of.ensures at c.fits_in.ensures)

@@ -1,6 +1,28 @@
 -- The test of "fit together" says exactly what it should: what passes fits, as the engine asks it, and what fits passes.
 -- Each part of the test is read as a statement by the lemmas for tests; the parts are then put together.
-use Rattle.std.specs.Prelude.{◌≡◌, refl, Bool, true, ◌||◌, List, [], ◌∷◌, ℕ, ◌+◌, ◌-◌, ◌≤◌, ◌<◌, eqb, leb, get_or, take, drop, replicate}
+use Rattle.std.specs.Prelude.{
+  Ok,
+  Err,
+  ◌≡◌,
+  refl,
+  Bool,
+  true,
+  ◌||◌,
+  List,
+  [],
+  ◌∷◌,
+  ℕ,
+  ◌+◌,
+  ◌-◌,
+  ◌≤◌,
+  ◌<◌,
+  eqb,
+  leb,
+  get_or,
+  take,
+  drop,
+  replicate,
+}
 use Rattle.std.proofs.Common.{
   sym,
   ap,
@@ -25,9 +47,7 @@ use Rattle.meaning.specs.Lists.{all, upto}
 use Rattle.meaning.specs.Meaning.{Program, atoms}
 use Rattle.meaning.proofs.Laws.Tests.{T-or-left, T-or-right, T-or-cases, T_true, eqb_of, get_or-upto, length-upto}
 use Rattle.format.specs.File.{decode}
-use Rattle.format.specs.Refusals.{verdict, passes}
-use Rattle.format.specs.declared.Verdict.{Verdict}
-use Rattle.format.specs.declared.Verdict.TheVariants.{Accepted, Refused}
+use Rattle.format.specs.Refusals.{Verdict, verdict, passes}
 use Rattle.format.specs.Laws.Accepted.{passed}
 use Rattle.format.specs.Passed.{Passed}
 use Rattle.format.specs.Laws.Passing.{passed-accepted}
@@ -203,8 +223,8 @@ module _ (P : Program) (nodes places : List ℕ) (layer count : ℕ) where
 
 -- an accepted file has passed
 passes-passed : (s : List ℕ) (v : Verdict) → verdict s ≡ v → T (passes v) → Passed s
-passes-passed s (Accepted f d r t) e h = passed s e
-passes-passed s (Refused w) e h = absurd h
+passes-passed s (Ok a) e h = passed s e
+passes-passed s (Err w) e h = absurd h
 
 record Whole (s : List ℕ) (h : Hand) : Type 0 where
   file : Passed s

@@ -25,7 +25,8 @@ use Rattle.meaning.proofs.Laws.Tests.{
   mem-upto,
   mem-of-upto,
 }
-use Rattle.diagram.specs.Listing.{Node, same_node}
+use Rattle.diagram.specs.Listing.{same_node}
+use Rattle.diagram.specs.declared.Node.{Node}
 use Rattle.store.specs.Store.{nowhere, fact_at, Sound}
 use Rattle.store.specs.Laws.Nodes.{same_node-refl, same_node-true}
 use Rattle.rounds.specs.Load.{fact_node}
@@ -117,12 +118,12 @@ module _ (count : ℕ) (l : List ℕ) (to : ℕ) where
 -- ---- a row of tests
 
 -- a && b && c .. , from its first test and the others
-abbrev row : Bool → List Bool → Bool
+abbrev pub row : Bool → List Bool → Bool
 row a [] = a
 row a (b ∷ l) = row (a && b) l
 
 -- each of these tests passes
-abbrev Pass : List Bool → Type 0
+abbrev pub Pass : List Bool → Type 0
 Pass [] = Unit
 Pass (a ∷ l) = T a × Pass l
 

@@ -1,15 +1,17 @@
 -- What an accepted file grants: what every test of the check asks for, and so that the program it holds is legal.
 -- An accepted file has no fault, so each of its tests fails to fail; read as orders of numbers, these are the fields of `PassedBy`.
-use Rattle.std.specs.Prelude.{◌≡◌, refl, Bool, true, false, not, ℕ, zero, suc, ◌+◌, ◌≤◌, ◌<◌, eqb, ltb, length, get_or}
+use Rattle.std.specs.Prelude.{Ok, ◌≡◌, refl, Bool, true, false, ℕ, zero, suc, ◌+◌, ◌≤◌, ◌<◌, eqb, ltb, length, get_or}
 use Rattle.std.proofs.Common.{sym, ◌∙◌, arith}
 use mathlib.Core.List.{List, [], ◌∷◌, Memᴰ}
 use Rattle.std.proofs.Math.ListN.{get_or-eq_default}
-use borrow.Author.Tests.{ltb-true, ltb-false, leb-false, eqb-true, eqb-false, not-false}
+use borrow.Author.Tests.{ltb-true, ltb-false, leb-false, eqb-false}
 use Rattle.meaning.proofs.Laws.Tests.{length-upto, get_or-upto, mem-of-upto}
 use Rattle.meaning.specs.Meaning.{Fact, Literal, Rule, Program, Layered, Known, layer_of, total}
 use Rattle.format.specs.Bytes.{Bytes, byte, u16}
 use Rattle.format.specs.File.{F, D, R, fact_at, layers_at, rules_at, start_of, literal_at, rule_at, decode}
 use Rattle.format.specs.Refusals.{
+  Verdict,
+  accepted_of,
   Test,
   length_tests,
   contents_tests,
@@ -28,26 +30,17 @@ use Rattle.format.specs.Refusals.{
   verdict_by,
 }
 use Rattle.format.specs.Checked.{Answers}
+use Rattle.format.specs.declared.Accepted.{Accepted}
 use Rattle.format.specs.Passed.{RightContents, PassedRule, PassedBy, Passed, Formed}
 use Rattle.format.specs.Legal.{Legal}
 use Rattle.format.specs.Laws.Decoded.{decode-facts, decode-layers, decode-rules}
 use Rattle.format.specs.Laws.FactsRead.{some-weight}
-use Rattle.format.specs.Laws.First.{accepted, head-passes, append-passes, each-passes}
-use Rattle.format.specs.declared.Verdict.{Verdict}
-use Rattle.format.specs.declared.Verdict.TheVariants.{Accepted}
-use Rattle.format.specs.declared.validate.Found.TheVariants.{Nothing}
+use Rattle.format.specs.Laws.Compared.{same}
+use Rattle.format.specs.Laws.First.{Clear, accepted, head-passes, append-passes, each-passes}
 
--- none of these tests fails
-abbrev Clear : List Test → Type 0
-Clear [] = Unit
-Clear (t ∷ ts) = (t.fails ≡ false) × Clear ts
-
-clear : (ts : List Test) → Answers ts Nothing → Clear ts
+clear : (ts : List Test) → Answers ts (Ok tt) → Clear ts
 clear [] a = tt
 clear (t ∷ ts) a = ((head-passes t ts a).0, clear ts (head-passes t ts a).1)
-
-same : (m n : ℕ) → not (eqb m n) ≡ false → m ≡ n
-same m n e = eqb-true m n (not-false (eqb m n) e)
 
 not-zero : (n : ℕ) → eqb n 0 ≡ false → 0 < n
 not-zero n e = omega (arith, eqb-false)
@@ -59,7 +52,7 @@ record RuleParts (layered : Bool) (s : List ℕ) (j : ℕ) : Type 0 where
       (i : ℕ) → i < u16 s (start_of s j + 2) →
       Clear (literal_tests layered (decode s) j (u16 s (start_of s j)) (literal_at s (start_of s j) i))
 
-rule-parts : (layered : Bool) (s : List ℕ) (j : ℕ) → Answers (rule_tests layered s j) Nothing → RuleParts layered s j
+rule-parts : (layered : Bool) (s : List ℕ) (j : ℕ) → Answers (rule_tests layered s j) (Ok tt) → RuleParts layered s j
 unfolding rule_tests
 rule-parts layered s j a =
     let (h, l) = append-passes (head_tests s j (start_of s j)) _ a in
@@ -88,7 +81,7 @@ record Parts (layered : Bool) (s : List ℕ) : Type 0 where
   rules : (j : ℕ) → j < R s → RuleParts layered s j
   leftover : length s ≤ start_of s (R s)
 
-parts : (layered : Bool) (s : List ℕ) → Answers (file_tests layered s) Nothing → Parts layered s
+parts : (layered : Bool) (s : List ℕ) → Answers (file_tests layered s) (Ok tt) → Parts layered s
 unfolding file_tests
 parts layered s a =
     let (a1, b1) = append-passes (length_tests s) _ a in
@@ -143,18 +136,18 @@ all-passed layered s p =
       keeps = λ j q i h. ((p.rules j q).literals i h).1.0;
     }
 
-passed-by : (layered : Bool) (s : List ℕ) {f d r t : ℕ} → verdict_by layered s ≡ Accepted f d r t → PassedBy layered s
+passed-by : (layered : Bool) (s : List ℕ) {a : Accepted} → verdict_by layered s ≡ Ok a → PassedBy layered s
 unfolding verdict_by
 passed-by layered s e =
-    all-passed layered s (parts layered s (accepted (file_tests layered s) (Accepted (F s) (D s) (R s) (total (decode s).facts)) e))
+    all-passed layered s (parts layered s (accepted (file_tests layered s) (Ok (accepted_of s)) e))
 
 -- an accepted file has passed every test,
-pub passed : (s : List ℕ) {f d r t : ℕ} → verdict s ≡ Accepted f d r t → Passed s
+pub passed : (s : List ℕ) {a : Accepted} → verdict s ≡ Ok a → Passed s
 unfolding verdict
 passed = passed-by true
 
 -- and one accepted without 11 every other
-pub formed : (s : List ℕ) {f d r t : ℕ} → verdict_by false s ≡ Accepted f d r t → Formed s
+pub formed : (s : List ℕ) {a : Accepted} → verdict_by false s ≡ Ok a → Formed s
 formed = passed-by false
 
 -- 11 is one test more
@@ -176,23 +169,26 @@ passed-formed p = record {
 }
 
 counts-by :
-    (layered : Bool) (s : List ℕ) {f d r t : ℕ} → verdict_by layered s ≡ Accepted f d r t →
-    (f ≡ F s) × (d ≡ D s) × (r ≡ R s) × (t ≡ total (decode s).facts)
+    (layered : Bool) (s : List ℕ) {a : Accepted} → verdict_by layered s ≡ Ok a →
+    (a.facts ≡ F s) × (a.derived ≡ D s) × (a.rules ≡ R s) × (a.total ≡ total (decode s).facts)
 unfolding verdict_by
-counts-by layered s {f} {d} {r} {t} e =
-    let v : Verdict = Accepted (F s) (D s) (R s) (total (decode s).facts) in
-    let q : Accepted f d r t ≡ v = sym e ∙ (accepted (file_tests layered s) v e).answer v in
+counts-by layered s {a} e =
+    let v : Verdict = Ok (accepted_of s) in
+    let q : Ok a ≡ v = sym e ∙ (accepted (file_tests layered s) v e).answer v in
+    let same : a ≡ accepted_of s = cc in
     (cc, cc, cc, cc)
 
 -- the verdict of an accepted file tells its counts and its total,
 pub accepted-counts :
-    (s : List ℕ) {f d r t : ℕ} → verdict s ≡ Accepted f d r t → (f ≡ F s) × (d ≡ D s) × (r ≡ R s) × (t ≡ total (decode s).facts)
+    (s : List ℕ) {a : Accepted} → verdict s ≡ Ok a →
+    (a.facts ≡ F s) × (a.derived ≡ D s) × (a.rules ≡ R s) × (a.total ≡ total (decode s).facts)
 unfolding verdict
 accepted-counts = counts-by true
 
 -- and so does the verdict without 11
 pub formed-counts :
-    (s : List ℕ) {f d r t : ℕ} → verdict_by false s ≡ Accepted f d r t → (f ≡ F s) × (d ≡ D s) × (r ≡ R s) × (t ≡ total (decode s).facts)
+    (s : List ℕ) {a : Accepted} → verdict_by false s ≡ Ok a →
+    (a.facts ≡ F s) × (a.derived ≡ D s) × (a.rules ≡ R s) × (a.total ≡ total (decode s).facts)
 formed-counts = counts-by false
 
 -- ---- the program of an accepted file is legal
@@ -294,5 +290,5 @@ module _ (s : List ℕ) (p : Passed s) where
     }
 
 -- an accepted file holds a legal program
-pub decoded-legal : (s : List ℕ) {f d r t : ℕ} → Bytes s → verdict s ≡ Accepted f d r t → Legal (decode s)
+pub decoded-legal : (s : List ℕ) {a : Accepted} → Bytes s → verdict s ≡ Ok a → Legal (decode s)
 decoded-legal s b e = legal s (passed s e) b

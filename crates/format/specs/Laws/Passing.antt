@@ -1,37 +1,34 @@
 -- What is accepted: a file that has passed every test, and so a file of a legal program with right contents and no byte left over.
 -- The tests are put together one by one from the fields of `PassedBy`; those come from what a legal program grants.
-use Rattle.std.specs.Prelude.{◌≡◌, refl, Bool, true, false, not, ◌&&◌, eqb, ltb, leb}
-use Rattle.std.proofs.Common.{ap, arith, ltb-true, ltb-false, le-ltb, eq-eqb, ne_eqb}
+use Rattle.std.specs.Prelude.{Ok, ◌≡◌, refl, Bool, true, false, ◌&&◌, eqb, ltb}
+use Rattle.std.proofs.Common.{ap, arith, ltb-true, ltb-false}
 use mathlib.Core.List.{List, Memᴰ}
 use Prim.Native.Nat.{ℕ, zero, suc, ◌+◌, ◌≤◌, ◌<◌}
 use Rattle.std.proofs.Math.ListN.{length}
-use Rattle.std.proofs.lemmas.Bool.{lt-leb}
 use Rattle.meaning.proofs.Laws.Tests.{length-upto, get_or-upto, mem-upto}
-use Rattle.meaning.specs.Meaning.{Literal, Rule, Program, layer_of, total, atoms}
+use Rattle.meaning.specs.Meaning.{Literal, Rule, Program, layer_of, atoms}
 use Rattle.format.specs.Bytes.{byte, u16}
 use Rattle.format.specs.File.{F, D, R, fact_at, layers_at, rules_at, start_of, literal_at, rule_at, decode}
-use Rattle.format.specs.Refusals.{contents_tests, offset_tests, fact_test, layer_test, breaks, rule_tests, file_tests, verdict, verdict_by}
+use Rattle.format.specs.Refusals.{
+  accepted_of,
+  contents_tests,
+  offset_tests,
+  fact_test,
+  layer_test,
+  breaks,
+  rule_tests,
+  file_tests,
+  verdict,
+  verdict_by,
+}
 use Rattle.format.specs.Checked.{Answers}
 use Rattle.format.specs.Legal.{Legal}
+use Rattle.format.specs.Laws.Compared.{alike, at_most, below, positive}
 use Rattle.format.specs.Laws.First.{none, pass, go_on, each_none}
 use Rattle.format.specs.Passed.{RightContents, PassedRule, PassedBy, Passed, Formed}
 use Rattle.format.specs.Laws.Decoded.{decode-facts, decode-layers, decode-rules}
-use Rattle.format.specs.declared.Verdict.TheVariants.{Accepted}
-use Rattle.format.specs.declared.validate.Found.TheVariants.{Nothing}
 
 -- ---- a file that has passed every test is accepted
-
-alike : {m n : ℕ} → m ≡ n → not (eqb m n) ≡ false
-alike {m} {n} e = ap not (eq-eqb m n e)
-
-at_most : {m n : ℕ} → n ≤ m → ltb m n ≡ false
-at_most {m} {n} h = le-ltb m n h
-
-below : {m n : ℕ} → n < m → leb m n ≡ false
-below {m} {n} h = lt-leb m n h
-
-positive : {n : ℕ} → 0 < n → eqb n 0 ≡ false
-positive {n} h = ne_eqb n 0 (λ e. omega arith)
 
 some-positive : (m n : ℕ) → 0 < m + n → (eqb m 0 && eqb n 0) ≡ false
 some-positive zero n h = positive {n = n} (omega arith)
@@ -41,7 +38,7 @@ rule-passes :
     (layered : Bool) (s : List ℕ) (j : ℕ) → PassedRule s j →
     ((i : ℕ) → i < u16 s (start_of s j + 2) → (layered && breaks (decode s) (u16 s (start_of s j)) (literal_at s (start_of s j) i)) ≡
     false) →
-    Answers (rule_tests layered s j) Nothing
+    Answers (rule_tests layered s j) (Ok tt)
 unfolding rule_tests start_of
 rule-passes layered s j p keeps =
     go_on
@@ -52,17 +49,17 @@ rule-passes layered s j p keeps =
     known : (i : ℕ) → i < u16 s (start_of s j + 2) → (literal_at s (start_of s j) i).atom < atoms (decode s)
     known i q = rw (decode-facts, decode-layers) (p.known i q)
 
-contents-pass : (s : List ℕ) → RightContents s → Answers (contents_tests s) Nothing
+contents-pass : (s : List ℕ) → RightContents s → Answers (contents_tests s) (Ok tt)
 unfolding contents_tests
 contents-pass s c =
     pass (alike c.layout) (pass (alike c.entries)
     (pass (alike c.kind_1) (pass (alike c.kind_2) (pass (alike c.kind_3) none))))
 
-offsets-pass : (s : List ℕ) → RightContents s → rules_at s ≤ length s → Answers (offset_tests s) Nothing
+offsets-pass : (s : List ℕ) → RightContents s → rules_at s ≤ length s → Answers (offset_tests s) (Ok tt)
 unfolding offset_tests
 offsets-pass s c h = pass (alike c.offset_1) (pass (alike c.offset_2) (pass (alike c.offset_3) (pass (at_most h) none)))
 
-passes : (layered : Bool) (s : List ℕ) → PassedBy layered s → Answers (file_tests layered s) Nothing
+passes : (layered : Bool) (s : List ℕ) → PassedBy layered s → Answers (file_tests layered s) (Ok tt)
 unfolding file_tests
 passes layered s p =
     go_on (pass (at_most p.long) (pass (at_most p.short) none))
@@ -76,17 +73,17 @@ passes layered s p =
     (pass (at_most {m = start_of s (R s)} {n = length s} (omega arith)) none))))))))
 
 by-accepted :
-    {layered : Bool} {s : List ℕ} → PassedBy layered s → verdict_by layered s ≡ Accepted (F s) (D s) (R s) (total (decode s).facts)
+    {layered : Bool} {s : List ℕ} → PassedBy layered s → verdict_by layered s ≡ Ok (accepted_of s)
 unfolding verdict_by
-by-accepted {layered} {s} p = (passes layered s p).answer (Accepted (F s) (D s) (R s) (total (decode s).facts))
+by-accepted {layered} {s} p = (passes layered s p).answer (Ok (accepted_of s))
 
 -- a file that has passed every test is accepted,
-pub passed-accepted : {s : List ℕ} → Passed s → verdict s ≡ Accepted (F s) (D s) (R s) (total (decode s).facts)
+pub passed-accepted : {s : List ℕ} → Passed s → verdict s ≡ Ok (accepted_of s)
 unfolding verdict
 passed-accepted p = by-accepted p
 
 -- and one that has passed every test but 11 is accepted without it
-pub formed-accepted : {s : List ℕ} → Formed s → verdict_by false s ≡ Accepted (F s) (D s) (R s) (total (decode s).facts)
+pub formed-accepted : {s : List ℕ} → Formed s → verdict_by false s ≡ Ok (accepted_of s)
 formed-accepted p = by-accepted p
 
 -- ---- and so is the file of a legal program

@@ -1,6 +1,10 @@
 -- The layers and the rules of a file as the check reads them: refusals 7 to 11.
 -- Each lemma says of one branch of the code which tests it has passed, or which fault it has met.
 use Rattle.std.specs.Prelude.{
+  Result,
+  Ok,
+  Err,
+  ⊤,
   ◌≡◌,
   refl,
   Bool,
@@ -8,7 +12,6 @@ use Rattle.std.specs.Prelude.{
   false,
   ◌&&◌,
   cond,
-  ◌⊎◌,
   List,
   ◌++◌,
   ℕ,
@@ -26,22 +29,7 @@ use Rattle.std.specs.Prelude.{
   take,
   drop,
 }
-use Rattle.std.proofs.Common.{
-  sym,
-  ◌∙◌,
-  inl,
-  inr,
-  arith,
-  add-one,
-  length-take,
-  length-drop,
-  eq-eqb,
-  ne_eqb,
-  lt-ltb,
-  le-ltb,
-  le-leb,
-  eqb-true,
-}
+use Rattle.std.proofs.Common.{sym, ◌∙◌, arith, add-one, length-take, length-drop, eq-eqb, ne_eqb, lt-ltb, le-ltb, le-leb, eqb-true}
 use Rattle.std.proofs.Math.Path.{ap, ap₂, subst}
 use Rattle.std.proofs.Math.Decide.{dec_lt}
 use Rattle.std.proofs.Math.Dec.{ltb, leb-suc-suc}
@@ -51,23 +39,20 @@ use Rattle.meaning.specs.Meaning.{layer_of, atoms}
 use Rattle.format.specs.Bytes.{byte, u16}
 use Rattle.format.specs.File.{F, D, R, layers_at, rules_at, after, start_of, literal, literal_at, decode}
 use Rattle.format.specs.Refusals.{layer_test, breaks, literal_tests, head_tests, rule_tests, rules_tests, each}
-use Rattle.format.specs.Checked.{Answers, HeaderRead, LiteralRead}
+use Rattle.format.specs.Checked.{Answers, LiteralRead}
 use Rattle.format.specs.Laws.Decoded.{decode-atoms}
 use Rattle.format.specs.Laws.First.{none, pass, fail, stop, go_on, each_none, each-fault}
 use Rattle.format.specs.declared.Refusal.{Refusal}
 use Rattle.format.specs.declared.Refusal.TheVariants.{Layerless, Broken, Unknown, Layers}
-use Rattle.format.specs.declared.validate.Found.{Found}
-use Rattle.format.specs.declared.validate.Head.{Head}
-use Rattle.format.specs.declared.validate.Found.TheVariants.{Fault, Nothing}
 
 -- ---- 7
 
 module _ (s : List ℕ) (i : ℕ) {x : ℕ} (read : x ≡ byte s (layers_at s + i)) where
-  pub layer-passes : (x ≡ 0 → ⊥) → Answers (layer_test s i) Nothing
+  pub layer-passes : (x ≡ 0 → ⊥) → Answers (layer_test s i) (Ok tt)
   unfolding layer_test
   layer-passes d = pass (ne_eqb (byte s (layers_at s + i)) 0 (λ e. d (read ∙ e))) none
 
-  pub layer-fails : x ≡ 0 → Answers (layer_test s i) (Fault (Layerless (F s + i)))
+  pub layer-fails : x ≡ 0 → Answers (layer_test s i) (Err (Layerless (F s + i)))
   unfolding layer_test
   layer-fails z = fail (eq-eqb (byte s (layers_at s + i)) 0 (sym read ∙ z))
 
@@ -83,7 +68,7 @@ breaks-at t x n = go (eqb (n % 2) 1) refl
 
 module _ (layered : Bool) (s : List ℕ) (j top lit : ℕ) where
   -- the atom is unknown,
-  pub literal-unknown : F s + D s ≤ lit / 2 → LiteralRead layered s j top lit (Fault (Unknown j))
+  pub literal-unknown : F s + D s ≤ lit / 2 → LiteralRead layered s j top lit (Err (Unknown j))
   unfolding literal_tests literal
   literal-unknown h = record { answers = λ p q. fail (le-leb (atoms (decode s)) (lit / 2) (omega (arith, decode-atoms s))) }
 
@@ -99,12 +84,12 @@ module _ (layered : Bool) (s : List ℕ) (j top lit : ℕ) where
     is_known = lt-leb (atoms (decode s)) (lit / 2) (omega (arith, decode-atoms s))
 
     -- or the literal breaks the layers,
-    pub literal-breaks : (layered && ltb top (low + lit % 2)) ≡ true → LiteralRead layered s j top lit (Fault (Layers j))
+    pub literal-breaks : (layered && ltb top (low + lit % 2)) ≡ true → LiteralRead layered s j top lit (Err (Layers j))
     unfolding literal_tests literal
     literal-breaks h = record { answers = λ p q. pass is_known (fail (breaks-read p q ∙ h)) }
 
     -- or it passes
-    pub literal-passes : (layered && ltb top (low + lit % 2)) ≡ false → LiteralRead layered s j top lit Nothing
+    pub literal-passes : (layered && ltb top (low + lit % 2)) ≡ false → LiteralRead layered s j top lit (Ok tt)
     unfolding literal_tests literal
     literal-passes h = record { answers = λ p q. pass is_known (pass (breaks-read p q ∙ h) none) }
 
@@ -114,7 +99,7 @@ module _ (layered : Bool) (s : List ℕ) (j top lit : ℕ) where
 pub record Reached (layered : Bool) (s : List ℕ) (j at : ℕ) : Type 0 where
   pub start : at ≡ start_of s j
   pub inside : at ≤ length s
-  pub passed : (k : ℕ) → k < j → Answers (rule_tests layered s k) Nothing
+  pub passed : (k : ℕ) → k < j → Answers (rule_tests layered s k) (Ok tt)
 
 module _ (layered : Bool) (s : List ℕ) where
   pub reached-first : rules_at s ≤ length s → {at : ℕ} → at ≡ rules_at s → Reached layered s 0 at
@@ -129,23 +114,23 @@ module _ (layered : Bool) (s : List ℕ) where
     rule-split = rw here.start
 
     -- a fault in a rule's header is the file's,
-    pub header-stops : j < R s → {w : Refusal} → Answers (head_tests s j at) (Fault w) → Answers (rules_tests layered s) (Fault w)
+    pub header-stops : j < R s → {w : Refusal} → Answers (head_tests s j at) (Err w) → Answers (rules_tests layered s) (Err w)
     unfolding rules_tests
     header-stops h a = stop _ (each-fault (R s) (rule_tests layered s) j h here.passed (rw rule-split (stop _ a)))
 
     -- and so is one in a literal,
     pub literal-stops :
-        j < R s → Answers (head_tests s j at) Nothing → (i : ℕ) → i < u16 s (at + 2) →
-        ((k : ℕ) → k < i → Answers (literal_tests layered (decode s) j (u16 s at) (literal_at s at k)) Nothing) → {w : Refusal} →
-        Answers (literal_tests layered (decode s) j (u16 s at) (literal_at s at i)) (Fault w) → Answers (rules_tests layered s) (Fault w)
+        j < R s → Answers (head_tests s j at) (Ok tt) → (i : ℕ) → i < u16 s (at + 2) →
+        ((k : ℕ) → k < i → Answers (literal_tests layered (decode s) j (u16 s at) (literal_at s at k)) (Ok tt)) → {w : Refusal} →
+        Answers (literal_tests layered (decode s) j (u16 s at) (literal_at s at i)) (Err w) → Answers (rules_tests layered s) (Err w)
     unfolding rules_tests
     literal-stops h b i q r a =
         stop _ (each-fault (R s) (rule_tests layered s) j h here.passed (rw rule-split (go_on b (each-fault (u16 s (at + 2)) _ i q r a))))
 
     -- and a rule with neither is passed
     pub reached-next :
-        Answers (head_tests s j at) Nothing → {end : ℕ} → end ≡ after s at → end ≤ length s →
-        ((k : ℕ) → k < u16 s (at + 2) → Answers (literal_tests layered (decode s) j (u16 s at) (literal_at s at k)) Nothing) →
+        Answers (head_tests s j at) (Ok tt) → {end : ℕ} → end ≡ after s at → end ≤ length s →
+        ((k : ℕ) → k < u16 s (at + 2) → Answers (literal_tests layered (decode s) j (u16 s at) (literal_at s at k)) (Ok tt)) →
         Reached layered s (j + 1) end
     unfolding start_of
     reached-next b e q r = rw (add-one j) (record {
@@ -153,25 +138,30 @@ module _ (layered : Bool) (s : List ℕ) where
       inside = q;
       passed = λ k p. elim (dec_lt k j) [
         | yes l ↦ here.passed k l
-        | no l ↦ subst (λ z. Answers (rule_tests layered s z) Nothing) (omega (arith, l)) whole
+        | no l ↦ subst (λ z. Answers (rule_tests layered s z) (Ok tt)) (omega (arith, l)) whole
       ];
     })
       where
-        whole : Answers (rule_tests layered s j) Nothing
+        whole : Answers (rule_tests layered s j) (Ok tt)
         whole = rw rule-split (go_on b (each_none (u16 s (at + 2)) _ r))
 
   -- after the last rule: bytes are left over,
-  pub rules-leftover : (at : ℕ) → Reached layered s (R s) at → at < length s → Answers (rules_tests layered s) (Fault (Broken (R s)))
+  pub rules-leftover :
+      {j at n : ℕ} → Reached layered s j at → j ≡ R s → n ≡ R s → at < length s → Answers (rules_tests layered s) (Err (Broken n))
   unfolding rules_tests
-  rules-leftover at here h =
-      go_on (each_none (R s) (rule_tests layered s) here.passed) (fail (lt-ltb (start_of s (R s)) (length s) (omega (arith, here.start))))
+  rules-leftover {j} {at} here e f h =
+      let last : Reached layered s (R s) at = rw e at here in
+      rw f
+      (go_on (each_none (R s) (rule_tests layered s) last.passed)
+      (fail (lt-ltb (start_of s (R s)) (length s) (omega (arith, last.start)))))
 
   -- or none are
-  pub rules-end : (at : ℕ) → Reached layered s (R s) at → length s ≤ at → Answers (rules_tests layered s) Nothing
+  pub rules-end : {j at : ℕ} → Reached layered s j at → j ≡ R s → length s ≤ at → Answers (rules_tests layered s) (Ok tt)
   unfolding rules_tests
-  rules-end at here h =
-      go_on (each_none (R s) (rule_tests layered s) here.passed)
-      (pass (le-ltb (start_of s (R s)) (length s) (omega (arith, here.start))) none)
+  rules-end {j} {at} here e h =
+      let last : Reached layered s (R s) at = rw e at here in
+      go_on (each_none (R s) (rule_tests layered s) last.passed)
+      (pass (le-ltb (start_of s (R s)) (length s) (omega (arith, last.start))) none)
 
 -- ---- a body as a part of the file
 
@@ -197,32 +187,12 @@ module _ (s : List ℕ) (at : ℕ) {end : ℕ} (ends : end ≡ after s at) (pres
       part-byte : (k : ℕ) → k < end - (at + 4) → byte body_bytes k ≡ byte s (at + 4 + k)
       part-byte k q = get_or-take (end - (at + 4)) (drop (at + 4) s) k 0 q ∙ get_or-drop (at + 4) s k 0
 
--- ---- what the calls of `header` and `literal` have answered, by the case that was met
+-- ---- what a call of `literal` has answered
 
-module _ (s : List ℕ) (j at : ℕ) where
-  pub header_is : {r q : Head} → HeaderRead s j at r → r ≡ q → HeaderRead s j at q
-  header_is h e = subst (HeaderRead s j at) e h
-
-  pub literal_is :
-      {layered : Bool} {top x : ℕ} {r q : Found} → LiteralRead layered s j top x r → r ≡ q → top ≡ layer_of (decode s) (u16 s at) →
-      (i : ℕ) →
-      literal x ≡ literal_at s at i → Answers (literal_tests layered (decode s) j (u16 s at) (literal_at s at i)) q
-  literal_is {layered} {x} {q} h e t i l =
-      subst (λ y. Answers (literal_tests layered (decode s) j (u16 s at) y) q) l
-      (subst (Answers (literal_tests layered (decode s) j (u16 s at) (literal x))) e (h.answers (u16 s at) t))
-
--- ---- where the loops over rules and literals end
-
--- past the last rule with no fault, or with the file's first
-abbrev pub Ended : Bool → List ℕ → ℕ → ℕ → Found → Type 0
-Ended layered s j at x =
-    ((x ≡ Nothing) × (R s ≤ j) × Reached layered s j at) ⊎ ((w : Refusal) × (x ≡ Fault w) × Answers (rules_tests layered s) (Fault w))
-
-module _ (layered : Bool) (s : List ℕ) (j at : ℕ) {x : Found} where
-  pub ended-fault : Ended layered s j at x → {w : Refusal} → x ≡ Fault w → Answers (rules_tests layered s) (Fault w)
-  ended-fault (inl v) e = absurd (let z : ◌≡◌ {A = ℕ} 0 1 = cc (v.0, e) in omega arith)
-  ended-fault (inr v) e = subst (Answers (rules_tests layered s)) (sym v.1 ∙ e) v.2
-
-  pub ended-reached : Ended layered s j at x → x ≡ Nothing → j ≤ R s → Reached layered s (R s) at
-  ended-reached (inl v) e h = subst (λ k. Reached layered s k at) (omega (arith, v.1)) v.2
-  ended-reached (inr v) e h = absurd (let z : ◌≡◌ {A = ℕ} 0 1 = cc (v.1, e) in omega arith)
+-- of literal i of the rule at `at`
+pub literal_is :
+    (s : List ℕ) (j at : ℕ) {layered : Bool} {top x : ℕ} {r : Result ⊤ Refusal} → LiteralRead layered s j top x r →
+    top ≡ layer_of (decode s) (u16 s at) → (i : ℕ) → literal x ≡ literal_at s at i →
+    Answers (literal_tests layered (decode s) j (u16 s at) (literal_at s at i)) r
+literal_is s j at {layered} {r} h t i l =
+    subst (λ y. Answers (literal_tests layered (decode s) j (u16 s at) y) r) l (h.answers (u16 s at) t)

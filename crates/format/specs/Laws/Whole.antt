@@ -1,10 +1,11 @@
 -- The whole check: at each point of the code, the tests that are left answer what all the tests answer.
-use Rattle.std.specs.Prelude.{◌≡◌, Bool, List, ◌++◌, ℕ, ◌≤◌, ◌<◌, length}
-use Rattle.std.proofs.Math.Path.{refl, subst}
-use Rattle.std.proofs.Common.{sym, ◌∙◌, arith, lt-ltb, le-ltb, ltb-false}
+use Rattle.std.specs.Prelude.{Ok, Err, Option, Some, None, ok_or, ◌≡◌, Bool, List, ◌++◌, ℕ, ◌≤◌, length}
+use Rattle.std.proofs.Math.Path.{refl}
+use Rattle.std.proofs.Common.{sym, ◌∙◌, arith, ltb-false}
 use Rattle.meaning.specs.Meaning.{total}
 use Rattle.format.specs.File.{F, D, R, rules_at, decode}
 use Rattle.format.specs.Refusals.{
+  Verdict,
   Test,
   first,
   length_tests,
@@ -16,19 +17,16 @@ use Rattle.format.specs.Refusals.{
   layer_test,
   rules_tests,
   each,
-  largest,
+  accepted_of,
   file_tests,
   verdict_by,
 }
-use Rattle.format.specs.Checked.{Answers, Framed, Totalled}
-use Rattle.format.specs.Laws.First.{none, pass, fail, first-append, head-passes}
+use Rattle.format.specs.Counted.{Framed}
+use Rattle.format.specs.Checked.{Answers, Totalled}
+use Rattle.format.specs.Laws.Compared.{at_most, over}
+use Rattle.format.specs.Laws.First.{none, pass, fail, first-append, head-passes, alike-fails}
 use Rattle.format.specs.declared.Refusal.{Refusal}
 use Rattle.format.specs.declared.Refusal.TheVariants.{Length, Total}
-use Rattle.format.specs.declared.Verdict.TheVariants.{Accepted, Refused}
-use Rattle.format.specs.declared.validate.Found.{Found}
-use Rattle.format.specs.declared.validate.Found.TheVariants.{Fault, Nothing}
-use Rattle.format.specs.declared.validate.Sum.{Sum}
-use Rattle.format.specs.declared.validate.Sum.TheVariants as sum
 
 -- ---- what is left after 1, 2, .. , 7
 
@@ -55,71 +53,63 @@ after1 layered s = contents_tests s ++ after2 layered s
 
 -- ---- from test to test
 
--- these tests answer what all of them answer
-pub record Left (layered : Bool) (s : List ℕ) (ts : List Test) : Type 0 where
-  pub left : verdict_by layered s ≡ first ts (Accepted (F s) (D s) (R s) (total (decode s).facts))
-
-pub answers-is : {ts : List Test} {r q : Found} → Answers ts r → r ≡ q → Answers ts q
-answers-is {ts} a e = subst (Answers ts) e a
+-- v is what these tests say of the file s
+pub record Left (v : Verdict) (s : List ℕ) (ts : List Test) : Type 0 where
+  pub left : v ≡ first ts (Ok (accepted_of s))
 
 -- a part of the tests has no fault, or the first
-module _ {layered : Bool} {s : List ℕ} (k l : List Test) (before : Left layered s (k ++ l)) where
-  pub passes : Answers k Nothing → Left layered s l
+module _ {v : Verdict} {s : List ℕ} (k l : List Test) (before : Left v s (k ++ l)) where
+  pub passes : Answers k (Ok tt) → Left v s l
   passes a = record { left = before.left ∙ first-append k l _ ∙ a.answer _ }
 
-  pub refuses : {w : Refusal} → Answers k (Fault w) → Refused w ≡ verdict_by layered s
+  pub refuses : {w : Refusal} → Answers k (Err w) → Err w ≡ v
   refuses a = sym (before.left ∙ first-append k l _ ∙ a.answer _)
 
 -- ---- 1
 
 module _ (layered : Bool) (s : List ℕ) where
-  whole : Left layered s (length_tests s ++ after1 layered s)
+  whole : Left (verdict_by layered s) s (length_tests s ++ after1 layered s)
   unfolding verdict_by file_tests
   whole = record { left = refl }
 
-  -- too short,
-  pub too_short : length s < 28 → Refused Length ≡ verdict_by layered s
+  -- too short or too long,
+  pub unfit : (28 ≤ length s → length s ≤ 65536 → ⊥) → Err Length ≡ verdict_by layered s
   unfolding length_tests
-  too_short h = refuses (length_tests s) (after1 layered s) whole (fail (lt-ltb (length s) 28 h))
-
-  -- too long,
-  pub too_long : 28 ≤ length s → 65536 < length s → Refused Length ≡ verdict_by layered s
-  unfolding length_tests
-  too_long h k = refuses (length_tests s) (after1 layered s) whole (pass (le-ltb (length s) 28 h) (fail (lt-ltb 65536 (length s) k)))
+  unfit h =
+      refuses (length_tests s) (after1 layered s) whole
+      (alike-fails _ (refl, (refl, tt)) (λ c. h (ltb-false _ _ c.0) (ltb-false _ _ c.1.0)))
 
   -- or neither
-  pub sized : 28 ≤ length s → length s ≤ 65536 → Left layered s (after1 layered s)
+  pub sized : 28 ≤ length s → length s ≤ 65536 → Left (verdict_by layered s) s (after1 layered s)
   unfolding length_tests
-  sized h k = passes (length_tests s) (after1 layered s) whole (pass (le-ltb (length s) 28 h) (pass (le-ltb 65536 (length s) k) none))
+  sized h k = passes (length_tests s) (after1 layered s) whole (pass (at_most h) (pass (at_most k) none))
 
 -- ---- the last tests
 
-module _ (layered : Bool) (s : List ℕ) (before : Left layered s (after7 layered s)) where
-  pub refuses-last : {w : Refusal} → Answers (after7 layered s) (Fault w) → Refused w ≡ verdict_by layered s
+module _ {v : Verdict} (layered : Bool) (s : List ℕ) (before : Left v s (after7 layered s)) where
+  pub refuses-last : {w : Refusal} → Answers (after7 layered s) (Err w) → Err w ≡ v
   refuses-last a = sym (before.left ∙ a.answer _)
 
   pub accepts :
-      Answers (after7 layered s) Nothing → {f d r t : ℕ} → f ≡ F s → d ≡ D s → r ≡ R s → t ≡ total (decode s).facts →
-      Accepted f d r t ≡ verdict_by layered s
+      Answers (after7 layered s) (Ok tt) → {f d r t : ℕ} → f ≡ F s → d ≡ D s → r ≡ R s → t ≡ total (decode s).facts →
+      Ok (record { facts = f; derived = d; rules = r; total = t }) ≡ v
   accepts a e g h k = let v = before.left ∙ a.answer _ in cc
 
 -- ---- 6
 
-module _ (s : List ℕ) {r : Sum} (t : Totalled s r) where
-  pub total-passes : {n : ℕ} → r ≡ sum.Total n → Answers (total_tests s) Nothing
+module _ (s : List ℕ) where
+  pub total-passes : {t : ℕ} → Totalled s (Some t) → Answers (total_tests s) (Ok tt)
   unfolding total_tests
-  total-passes {n} e = let h = subst (Totalled s) e t in pass (le-ltb largest (total (decode s).facts) (omega (arith, h.0, h.1))) none
+  total-passes h = pass (at_most (omega (arith, h.0, h.1))) none
 
-  pub total-is : {n : ℕ} → r ≡ sum.Total n → n ≡ total (decode s).facts
-  total-is e = (subst (Totalled s) e t).0
-
-  pub total-fails : r ≡ sum.TooLarge → Answers (total_tests s) (Fault Total)
+  pub total-fails : (r : Option ℕ) → Totalled s r → {w : Refusal} → Err w ≡ ok_or r Total → Answers (total_tests s) (Err w)
   unfolding total_tests
-  total-fails e = fail (lt-ltb largest (total (decode s).facts) (subst (Totalled s) e t))
+  total-fails (Some t) h e = cc
+  total-fails None h {w} e = let d : Total ≡ w = cc in rw (← d) (fail (over h))
 
 -- ---- what the parts after 4 may take for granted
 
-pub framed : (s : List ℕ) → length s ≤ 65536 → Answers (counts_tests s) Nothing → Answers (offset_tests s) Nothing → Framed s
+pub framed : (s : List ℕ) → length s ≤ 65536 → Answers (counts_tests s) (Ok tt) → Answers (offset_tests s) (Ok tt) → Framed s
 unfolding counts_tests offset_tests
 framed s h a b =
     let (p, a₂) = head-passes _ _ a in

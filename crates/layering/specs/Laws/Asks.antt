@@ -24,7 +24,7 @@ use Rattle.std.specs.Prelude.{
 }
 use Rattle.std.proofs.Math.Path.{sym}
 use Rattle.std.proofs.Common.{ap, ◌∙◌, arith, add-one, eqb-true}
-use Rattle.std.proofs.Math.Nat.{max_comm, max-eq_left, max-eq_right}
+use Rattle.std.proofs.Math.Nat.{max_comm}
 use Rattle.std.proofs.lemmas.Bool.{eqb-false}
 use Rattle.meaning.specs.Lists.{upto}
 use Rattle.meaning.specs.Meaning.{Literal}
@@ -76,29 +76,19 @@ module _ {s ls : List ℕ} {facts at len : ℕ} (q : BodyAsked s ls facts at len
   place-known {n} e k = let t : n / 2 < facts + length ls = rw e (q.known i h) in omega arith
 
 -- the literals below i ask for `most`
-pub record Asking (s ls : List ℕ) (F at len most i : ℕ) : Type 0 where
+pub record Asking (s ls : List ℕ) (F at most i : ℕ) : Type 0 where
   pub is : most ≡ asks F ls (body_at s at i)
-  pub within : i ≤ len
 
 -- with no literal nothing is asked,
-pub asking-start : (s ls : List ℕ) (F at len : ℕ) → Asking s ls F at len 0 0
+pub asking-start : (s ls : List ℕ) (F at : ℕ) → Asking s ls F at 0 0
 unfolding asks upto
-asking-start s ls F at len = record { is = refl; within = omega arith }
+asking-start s ls F at = record { is = refl }
 
-module _ {s ls : List ℕ} {F at len most i : ℕ} (g : Asking s ls F at len most i) (h : i < len) where
-  more : {v : ℕ} → v ≡ one F ls (literal (u16 s (at + 2 * i))) → max most v ≡ asks F ls (body_at s at (i + 1))
-  more e = rw (add-one i, g.is, e) (sym (asks-last F ls i (λ k. literal (u16 s (at + 2 * k)))))
-
-  -- one literal more that asks for more,
-  pub asking-more : {n v : ℕ} → n ≡ u16 s (at + 2 * i) → v ≡ one F ls (literal n) → most < v → Asking s ls F at len v (i + 1)
-  asking-more {n} {v} d e lt =
-      record { is = sym (max-eq_right {n = most} {m = v} (omega arith)) ∙ more (rw d at e); within = omega arith }
-
-  -- or that does not
-  pub asking-same : {n v : ℕ} → n ≡ u16 s (at + 2 * i) → v ≡ one F ls (literal n) → v ≤ most → Asking s ls F at len most (i + 1)
-  asking-same {n} {v} d e le =
-      record { is = sym (max-eq_left {n = most} {m = v} le) ∙ more (rw d at e); within = omega arith }
-
--- in the end all have asked
-pub asking-end : {s ls : List ℕ} {F at len most i : ℕ} → Asking s ls F at len most i → len ≤ i → most ≡ asks F ls (body_at s at len)
-asking-end {len = len} {i = i} g h = let e : i ≡ len = omega (arith, g.within) in (rw e at g).is
+-- and one literal more asks for its own layer too
+pub asking-next : {s ls : List ℕ} {F at most i n v : ℕ} → Asking s ls F at most i →
+    n ≡ u16 s (at + 2 * i) → v ≡ one F ls (literal n) → Asking s ls F at (max v most) (i + 1)
+asking-next {s} {ls} {F} {at} {most = most} {i = i} {v = v} g d e = record {
+  is =
+      max_comm v most ∙
+      rw (add-one i, g.is, e, d) (sym (asks-last F ls i (λ k. literal (u16 s (at + 2 * k)))));
+}

@@ -1,5 +1,5 @@
 -- What the call answers is fixed but for the chain: which of the answers is given, its numbers, and at every answer but 24 the output.
-use Rattle.std.specs.Prelude.{◌≡◌, refl, List, ◌∷◌, ◌++◌, ℕ, zero, suc, ◌+◌, ◌<◌, drop}
+use Rattle.std.specs.Prelude.{◌≡◌, refl, Result, Ok, Err, ⊤, List, ◌∷◌, ◌++◌, ℕ, zero, suc, ◌+◌, ◌<◌, drop}
 use Rattle.std.proofs.Common.{sym, ap, ◌∙◌, arith}
 use Rattle.meaning.specs.Lists.{upto}
 use Rattle.meaning.specs.Meaning.{Program, atoms}
@@ -8,12 +8,11 @@ use Rattle.format.specs.Refusals.{number, detail}
 use Rattle.format.specs.Laws.Decoded.{decode-facts, decode-layers}
 use Rattle.chains.specs.Layering.{Smallest}
 use Rattle.chains.specs.Written.{ChainDone}
-use Rattle.layering.specs.Told.{LayersDone, HighDone, Done, found_told, LayersIs, short, refused, found}
+use Rattle.layering.specs.Told.{LayersDone, HighDone, Done, Told, found_told, LayersIs, short, refused, found}
 use Rattle.layering.specs.Laws.Exists.{chain-none}
 use Rattle.layering.specs.Laws.Told.{passes-formed, not-refused, not-high}
-use Rattle.layering.specs.declared.Found.{Found}
-use Rattle.layering.specs.declared.Found.TheVariants as variant
-use Rattle.layering.specs.declared.Told.{Told}
+use Rattle.layering.specs.declared.Unlayered.{Unlayered}
+use Rattle.layering.specs.declared.Unlayered.TheVariants.{High, Chain}
 
 -- ---- each way
 
@@ -76,17 +75,18 @@ same-all e k = record {
   output = λ h. k;
 }
 
-same-found : (s out o₁ o₂ : List ℕ) (f g : Found) → Done s out o₁ f → Done s out o₂ g → SameTold o₁ o₂ (found_told s f) (found_told s g)
-same-found s out o₁ o₂ variant.Layers variant.Layers c d = same-all refl (layers-same c d)
-same-found s out o₁ o₂ variant.Layers (variant.High b) c d = absurd (not-high d c.smallest c.low)
-same-found s out o₁ o₂ variant.Layers (variant.Chain b m) c d = absurd (not-both d c.smallest)
-same-found s out o₁ o₂ (variant.High a) variant.Layers c d = absurd (not-high c d.smallest d.low)
-same-found s out o₁ o₂ (variant.High a) (variant.High b) c d =
-    same-all (ap (λ a. found_told s (variant.High a)) (high_same c d)) (c.kept ∙ sym d.kept)
-same-found s out o₁ o₂ (variant.High a) (variant.Chain b m) c d = absurd (not-both d c.smallest)
-same-found s out o₁ o₂ (variant.Chain a n) variant.Layers c d = absurd (not-both c d.smallest)
-same-found s out o₁ o₂ (variant.Chain a n) (variant.High b) c d = absurd (not-both c d.smallest)
-same-found s out o₁ o₂ (variant.Chain a n) (variant.Chain b m) c d = record {
+same-found : (s out o₁ o₂ : List ℕ) (f g : Result ⊤ Unlayered) → Done s out o₁ f → Done s out o₂ g →
+    SameTold o₁ o₂ (found_told s f) (found_told s g)
+same-found s out o₁ o₂ (Ok _) (Ok _) c d = same-all refl (layers-same c d)
+same-found s out o₁ o₂ (Ok _) (Err (High b)) c d = absurd (not-high d c.smallest c.low)
+same-found s out o₁ o₂ (Ok _) (Err (Chain m)) c d = absurd (not-both d c.smallest)
+same-found s out o₁ o₂ (Err (High a)) (Ok _) c d = absurd (not-high c d.smallest d.low)
+same-found s out o₁ o₂ (Err (High a)) (Err (High b)) c d =
+    same-all (ap (λ a. found_told s (Err (High a))) (high_same c d)) (c.kept ∙ sym d.kept)
+same-found s out o₁ o₂ (Err (High a)) (Err (Chain m)) c d = absurd (not-both d c.smallest)
+same-found s out o₁ o₂ (Err (Chain l)) (Ok _) c d = absurd (not-both c d.smallest)
+same-found s out o₁ o₂ (Err (Chain l)) (Err (High b)) c d = absurd (not-both c d.smallest)
+same-found s out o₁ o₂ (Err (Chain l)) (Err (Chain m)) c d = record {
   refusal = refl;
   detail = chain_same c d;
   length = λ h. absurd (h refl);

@@ -24,7 +24,7 @@ pub record Settling (s layers : List ℕ) (n : ℕ) : Type 0 where
 settling-size : {s layers : List ℕ} {n : ℕ} → Settling s layers n → length layers ≡ D s
 settling-size {s} {n = n} g = ap length g.is ∙ passes-length (decode s) n ∙ decode-layers s
 
-module _ {s start : List ℕ} {facts derived rules : ℕ} (q : SettleAsked s start facts derived rules) where
+module _ {s start : List ℕ} (q : SettleAsked s start) where
   -- none was made,
   pub settling-start : Settling s start 0
   unfolding passes
@@ -39,18 +39,14 @@ module _ {s start : List ℕ} {facts derived rules : ℕ} (q : SettleAsked s sta
 
   module _ {layers : List ℕ} {n : ℕ} (g : Settling s layers n) where
     -- one more can be made,
-    pub settling-more : n ≤ derived → PassAsked s layers facts rules
-    settling-more h =
-        let z = q.sized in
-        record {
-          formed = z.formed;
-          facts_are = z.facts_are;
-          rules_are = z.rules_are;
-          size = settling-size g;
-          low = λ i.
-              let t = passes-low (decode s) (rw (decode-rules s) z.formed.rules) n i in
-              rw g.is (omega (arith, z.formed.derived, z.derived_are));
-        }
+    pub settling-more : n ≤ D s → PassAsked s layers
+    settling-more h = record {
+      formed = q.formed;
+      size = settling-size g;
+      low = λ i.
+          let t = passes-low (decode s) (rw (decode-rules s) q.formed.rules) n i in
+          rw g.is (omega (arith, q.formed.derived));
+    }
 
     next-is : {after : List ℕ} {c : Bool} → PassDone s layers after c → after ≡ passes (decode s) (suc n)
     unfolding passes
@@ -62,27 +58,27 @@ module _ {s start : List ℕ} {facts derived rules : ℕ} (q : SettleAsked s sta
         let same : passes (decode s) (suc n) ≡ passes (decode s) n = sym (next-is d) ∙ d.same e ∙ g.is in
         record {
           size = ap length (d.same e) ∙ settling-size g;
-          smallest = λ _. rw (d.same e, g.is, ← decode-facts s) (still-smallest (decode s) (formed-known q.sized.formed) n same);
+          smallest = λ _. rw (d.same e, g.is, ← decode-facts s) (still-smallest (decode s) (formed-known q.formed) n same);
           chain = λ f. let z : ◌≡◌ {A = ℕ} 0 1 = cc in absurd (omega arith);
         }
 
     -- or it was made too,
-    pub settling-next : n ≤ derived → {after : List ℕ} {c : Bool} → PassDone s layers after c → c ≡ true → Settling s after (n + 1)
+    pub settling-next : n ≤ D s → {after : List ℕ} {c : Bool} → PassDone s layers after c → c ≡ true → Settling s after (n + 1)
     settling-next h d e = record {
       is = rw (add-one n) (next-is d);
-      within = omega (arith, q.sized.derived_are);
+      within = omega arith;
       moved = λ m f k.
           let here : m ≡ n = omega arith in
           d.moved e (next-is d ∙ rw here at k ∙ sym g.is);
     }
 
     -- and with one more than there are derived atoms there is a chain
-    pub settling-end : derived < n → Settled s layers false
+    pub settling-end : D s < n → Settled s layers false
     settling-end h = record {
       size = settling-size g;
       smallest = λ f. let z : ◌≡◌ {A = ℕ} 0 1 = cc in absurd (omega arith);
       chain = λ _.
-          let last : n ≡ suc (length (decode s).layers) = omega (arith, decode-layers s, g.within, q.sized.derived_are) in
+          let last : n ≡ suc (length (decode s).layers) = omega (arith, decode-layers s, g.within) in
           ⊎_elim (λ c. c) (λ k. absurd (g.moved (length (decode s).layers) last k))
-          (chain-or-still (decode s) (formed-known q.sized.formed));
+          (chain-or-still (decode s) (formed-known q.formed));
     }

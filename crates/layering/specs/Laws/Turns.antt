@@ -5,22 +5,16 @@ use Rattle.std.proofs.Common.{sym, ap, ◌∙◌, arith, add-one, length-set, dr
 use Rattle.std.proofs.Math.ListN.{get_or}
 use Rattle.std.proofs.lemmas.List.{set-get_or}
 use Rattle.std.proofs.Math.Seq.{drop-cons}
-use Rattle.meaning.proofs.Laws.Tests.{get_or-upto}
 use Rattle.format.specs.Bytes.{u16}
 use Rattle.format.specs.File.{F, D, R, start_of, literal_at, rule_at, decode}
 use Rattle.format.specs.Walk.{first_at}
 use Rattle.format.specs.Laws.Decoded.{decode-rules}
 use Rattle.format.specs.Laws.Walked.{first-start}
-use Rattle.chains.specs.Layering.{rule_of}
+use Rattle.chains.specs.Laws.Lead.{rule_is}
 use Rattle.layering.specs.Rising.{asks, pass}
 use Rattle.layering.specs.Inner.{body_at, BodyAsked, PassAsked, PassDone}
 use Rattle.layering.specs.Laws.Pass.{Below, raised, raised_below}
 use Rattle.layering.specs.Laws.Low.{Low, raised-low}
-
--- rule j is the one at its start
-rule_is : (s : List ℕ) (j : ℕ) → j < R s → rule_of (decode s) j ≡ rule_at s (start_of s j)
-unfolding decode
-rule_is s j h = get_or-upto (R s) (λ i. rule_at s (start_of s i)) _ j h
 
 -- Of a pass from the layers `before`, the rules below j had their turns: the layers now are `now`, and the rules from `at` on are left.
 pub record Turned (s before now : List ℕ) (changed : Bool) (at j : ℕ) : Type 0 where
@@ -33,7 +27,7 @@ pub record Turned (s before now : List ℕ) (changed : Bool) (at j : ℕ) : Type
   pub same : changed ≡ false → now ≡ before
   pub moved : changed ≡ true → (i : ℕ) × (get_or before i 0 < get_or now i 0)
 
-module _ {s before : List ℕ} {facts rules : ℕ} (q : PassAsked s before facts rules) where
+module _ {s before : List ℕ} {facts rules : ℕ} (q : PassAsked s before) (facts_are : facts ≡ F s) (rules_are : rules ≡ R s) where
   -- none has had its turn,
   pub turned-start : {at : ℕ} → at ≡ first_at s → Turned s before before false at 0
   turned-start e = record {
@@ -49,7 +43,7 @@ module _ {s before : List ℕ} {facts rules : ℕ} (q : PassAsked s before facts
 
   module _ {now : List ℕ} {changed : Bool} {at j : ℕ} (g : Turned s before now changed at j) (more : j < rules) where
     in-rules : j < R s
-    in-rules = omega (arith, q.rules_are)
+    in-rules = omega (arith, rules_are)
 
     -- the next rule's header lies in the file,
     pub turned-room : at + 4 ≤ length s
@@ -60,7 +54,7 @@ module _ {s before : List ℕ} {facts rules : ℕ} (q : PassAsked s before facts
     turned-head {h} e =
         let r = q.formed.rule j in-rules in
         let d : h ≡ u16 s (start_of s j) = cc g.here in
-        (omega (arith, q.facts_are, r.derived), omega (arith, q.facts_are, r.derived, r.below, g.size))
+        (omega (arith, facts_are, r.derived), omega (arith, facts_are, r.derived, r.below, g.size))
 
     module _ {len : ℕ} (e : len ≡ u16 s (at + 2)) where
       -- its body lies there too, with known atoms,
@@ -70,7 +64,7 @@ module _ {s before : List ℕ} {facts rules : ℕ} (q : PassAsked s before facts
           let r = q.formed.rule j in-rules in
           record {
             inside = omega (arith, rw (← g.here, ← e) at r.inside);
-            known = λ i h. rw (q.facts_are, g.size, g.here) (r.known i (rw (e, g.here) at h));
+            known = λ i h. rw (facts_are, g.size, g.here) (r.known i (rw (e, g.here) at h));
             low = λ i. omega (arith, g.low i, q.formed.rules);
           }
 
@@ -99,7 +93,7 @@ module _ {s before : List ℕ} {facts rules : ℕ} (q : PassAsked s before facts
       module _ {h most : ℕ} (d : h ≡ u16 s at) (m : most ≡ asks facts now (body_at s (at + 4) len)) where
         raised_is : set now (h - facts) (max (get_or now (h - facts) 0) most) ≡ raised (F s) (rule_at s at) now
         unfolding rule_at
-        raised_is = rw (m, e, d, q.facts_are) refl
+        raised_is = rw (m, e, d, facts_are) refl
 
         -- either its head is raised,
         pub turned-raise : get_or now (h - facts) 0 < most → Turned s before (set now (h - facts) most) true (at + 4 + 2 * len) (j + 1)
@@ -120,7 +114,7 @@ module _ {s before : List ℕ} {facts rules : ℕ} (q : PassAsked s before facts
       {now : List ℕ} {changed : Bool} {at j : ℕ} → Turned s before now changed at j → rules ≤ j → PassDone s before now changed
   unfolding pass
   turned-end {now} {j = j} g le = record {
-    is = rw (drop_of_length-le (decode s).rules {i = j} (omega (arith, decode-rules s, q.rules_are))) at g.left;
+    is = rw (drop_of_length-le (decode s).rules {i = j} (omega (arith, decode-rules s, rules_are))) at g.left;
     same = g.same;
     moved = λ c e. let (i, lt) = g.moved c in let z : get_or now i 0 ≡ get_or before i 0 = rw e refl in absurd (omega arith);
   }

@@ -1,6 +1,6 @@
 -- A layering written into a file: the file holds the same facts and rules under the new layers. Where the layering is legal and fits in
 -- bytes the file is accepted, and the models, weights and listings are the same for every such layering.
-use Rattle.std.specs.Prelude.{◌≡◌, refl, Bool, true, false, length, take}
+use Rattle.std.specs.Prelude.{Ok, ◌≡◌, refl, Bool, true, false, length, take}
 use Rattle.std.proofs.Common.{sym, ◌∙◌, length-take-le, ext_get_or, lt-ltb, le-ltb}
 use Rattle.std.proofs.Math.Path.{ap, ap₂}
 use mathlib.Core.List.{List, ◌++◌, Memᴰ}
@@ -16,13 +16,12 @@ use Rattle.meaning.proofs.Laws.Tests.{length-upto, get_or-upto, mem-upto}
 use Rattle.meaning.proofs.Laws.Weights.{weigh-same}
 use Rattle.format.specs.Bytes.{byte, u16, u32}
 use Rattle.format.specs.File.{F, D, R, fact_at, layers_at, rules_at, after, start_of, literal, literal_at, rule_at, decode}
-use Rattle.format.specs.Refusals.{breaks, verdict}
+use Rattle.format.specs.Refusals.{accepted_of, breaks, verdict}
 use Rattle.format.specs.Laws.Accepted.{formed-known}
 use Rattle.format.specs.Passed.{RightContents, PassedRule, Passed, Formed}
 use Rattle.format.specs.Laws.Decoded.{decode-facts, decode-layers, fact-is}
 use Rattle.format.specs.Laws.Passing.{passed-accepted}
 use Rattle.format.specs.Laws.Reading.{Stands, stands-whole, stands-left, stands-right, stands_at, upto-bytes}
-use Rattle.format.specs.declared.Verdict.TheVariants.{Accepted}
 use Rattle.diagram.specs.Diagram.{diagram_of}
 use Rattle.diagram.specs.Listing.{listing}
 use Rattle.diagram.proofs.Laws.Function.{of-good, of-says, of-only}
@@ -279,10 +278,15 @@ module _ {s : List ℕ} (p : Formed s) {layer : ℕ → ℕ} (w : Legal (decode 
   }
 
   -- it is accepted, with the counts and the total of the file without it
-  pub relayered-accepted : verdict (relayered s layer) ≡ Accepted (F s) (D s) (R s) (total (decode s).facts)
+  pub relayered-accepted : verdict (relayered s layer) ≡ Ok (accepted_of s)
   relayered-accepted =
       passed-accepted relayered-passed ∙
-      λ i. Accepted (same-F rest-kept i) (same-D rest-kept i) (same-R rest-kept i) (total (same_facts rest-kept i))
+      λ i. Ok (record {
+        facts = same-F rest-kept i;
+        derived = same-D rest-kept i;
+        rules = same-R rest-kept i;
+        total = total (same_facts rest-kept i);
+      })
 
 -- ---- with either of two such layerings
 

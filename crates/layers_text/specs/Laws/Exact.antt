@@ -1,5 +1,5 @@
 -- What the definition fixes: the whole text, but at 24, where it is a chain's.
-use Rattle.std.specs.Prelude.{◌≡◌, refl, List, ◌∷◌, ◌++◌, ℕ, ◌+◌, ◌≤◌, ◌<◌, length, take, drop, replicate}
+use Rattle.std.specs.Prelude.{◌≡◌, refl, Ok, List, ◌∷◌, ◌++◌, ℕ, ◌+◌, ◌≤◌, ◌<◌, length, take, drop, replicate}
 use Rattle.std.proofs.Common.{sym, ap, ◌∙◌, arith}
 use Rattle.std.proofs.lemmas.List.{length-replicate}
 use Rattle.text.specs.Text.{refused_text}
@@ -11,7 +11,6 @@ use Rattle.chains.specs.Laws.Cut.{SomeChain}
 use Rattle.layering.specs.Told.{LayersDone, found_told, LayersIs, found}
 use Rattle.layering.specs.Laws.Fixed.{told_fixed}
 use Rattle.layering.specs.Laws.Told.{formed-passes, told-24, told-chained}
-use Rattle.layering.specs.declared.Found.TheVariants as variant
 use Rattle.layers_text.specs.LayersText.{layer_lines, rule_lines, chain_in, layers_text, LayersSaid}
 use Rattle.layers_text.specs.Laws.Chain.{chain_of, chain-read}
 use Rattle.layers_text.specs.Laws.Said.{text-layers, text-chain}
@@ -36,12 +35,12 @@ pub layers-said-exact : {s text : List ℕ} → LayersSaid s text → Formed s �
 layers-said-exact {s} {text} said formed {layer} smallest low =
     let out : List ℕ = upto (D s) (λ i. layer (F s + i)) ++ drop (D s) (replicate 2048 0) in
     let done : LayersDone s (replicate 2048 0) out = record { layer = layer; smallest = smallest; low = low; bytes = refl } in
-    let is : LayersIs s (replicate 2048 0) out (found_told s variant.Layers) = found variant.Layers empty-long (formed-passes formed) done
+    let is : LayersIs s (replicate 2048 0) out (found_told s (Ok tt)) = found (Ok tt) empty-long (formed-passes formed) done
     refl in
-    let other : LayersSaid s (layers_text (F s) (found_told s variant.Layers) (take (D s) out)) =
-    record { out = out; told = found_told s variant.Layers; is = is; text_is = refl } in
+    let other : LayersSaid s (layers_text (F s) (found_told s (Ok tt)) (take (D s) out)) =
+    record { out = out; told = found_told s (Ok tt); is = is; text_is = refl } in
     let none = (told_fixed said.is is).refusal in
-    layers-said-same said other (λ z. omega arith) ∙ text-layers (F s) (found_told s variant.Layers) (take (D s) out) refl ∙
+    layers-said-same said other (λ z. omega arith) ∙ text-layers (F s) (found_told s (Ok tt)) (take (D s) out) refl ∙
     ap (layer_lines (F s)) (done-written done)
 
 -- "24 .. detail the lowest atom on any such chain", and behind it the rules of a chain through that atom

@@ -4,16 +4,17 @@ use Rattle.std.proofs.Common.{sym, ap, ◌∙◌, append-nil, length-take-le}
 use native.Mathlib.Omega.{arith}
 use borrow.Author.Tests.{eq-eqb, ne_eqb}
 use Rattle.text.specs.Text.{refused_text}
-use Rattle.text.specs.Wrote.{Wrote}
+use Rattle.text.specs.Writes.{Writes}
+use Rattle.text.specs.declared.Writer.{Writer}
 use Rattle.text.specs.Laws.Parts.{refused-most}
-use Rattle.text.specs.Laws.Wrote.{wrote-length, wrote_then, wrote-is, wrote-printed}
+use Rattle.text.specs.Laws.Wrote.{wrote-length}
+use Rattle.text.specs.Laws.Writes.{writes_then, writes-is}
 use Rattle.format.specs.Bytes.{u16}
 use Rattle.format.specs.File.{F}
-use Rattle.layering.specs.Told.{LayersIs}
+use Rattle.layering.specs.Told.{Told, LayersIs}
 use Rattle.layering.specs.Laws.Told.{told-formed, told-inside, told-written, told-chained}
-use Rattle.layering.specs.declared.Told.{Told}
-use Rattle.layers_text.specs.LayersText.{layer_lines, rule_lines, chain_in, layers_text, LayersPrinted}
-use Rattle.layers_text.specs.Asked.{LayerLinesAsked, RuleLinesAsked, AnswerAsked}
+use Rattle.layers_text.specs.LayersText.{layer_lines, rule_lines, chain_in, layers_text}
+use Rattle.layers_text.specs.Asked.{LayerLinesAsked, RuleLinesAsked, AnswerAsked, WritesLayers}
 use Rattle.layers_text.specs.Laws.Chain.{chain-count, chain-whole}
 
 -- ---- the definition by the refusal
@@ -39,14 +40,13 @@ module _ (facts : ℕ) (told : Told) (written : List ℕ) where
 
 -- ---- the answer
 
-module _ {s found out found₁ : List ℕ} {told : Told} (q : AnswerAsked found out) (is : LayersIs s found found₁ told) where
-  -- a text of the definition, written from the output's start
-  said-printed : {out₁ : List ℕ} {r : ℕ} → Wrote out out₁ 0 r (layers_text (F s) told (take told.length found₁)) →
-      LayersPrinted s out out₁ r
-  said-printed w = record {
+module _ {s found found₁ : List ℕ} {w : Writer} {told : Told} (q : AnswerAsked found w) (is : LayersIs s found found₁ told) where
+  -- a text of the definition
+  said-writes : {w₁ : Writer} → Writes w w₁ (layers_text (F s) told (take told.length found₁)) → WritesLayers s w w₁
+  said-writes v = record {
     text = layers_text (F s) told (take told.length found₁);
     said = record { out = found₁; told = told; is = rw q.empty at is; text_is = refl };
-    printed = wrote-printed w;
+    writes = v;
   }
 
   module _ (same : length found₁ ≡ length found) where
@@ -58,25 +58,25 @@ module _ {s found out found₁ : List ℕ} {told : Told} (q : AnswerAsked found 
     written-size = sym (length-take-le told.length found₁ written-inside)
 
     -- and the layers' lines can be written
-    pub layer-lines-asked : told.refusal ≡ 0 → {facts : ℕ} → facts ≡ F s → LayerLinesAsked (take told.length found₁) out facts
+    pub layer-lines-asked : told.refusal ≡ 0 → {facts : ℕ} → facts ≡ F s → LayerLinesAsked (take told.length found₁) facts w
     layer-lines-asked z f =
         let formed = told-formed is z in
         record {
           few = omega (arith, formed.facts);
           some = omega (arith, written-size, (told-written is z).1, formed.derived);
-          room = q.room;
+          room = omega (arith, q.room);
         }
 
-  pub layers-printed : told.refusal ≡ 0 → {facts : ℕ} → facts ≡ F s → {out₁ : List ℕ} {r : ℕ} →
-      Wrote out out₁ 0 r (layer_lines facts (take told.length found₁)) → LayersPrinted s out out₁ r
-  layers-printed z f w =
-      said-printed
-      (wrote-is w (ap (λ n. layer_lines n (take told.length found₁)) f ∙ sym (text-layers (F s) told (take told.length found₁) z)))
+  pub layers-written : told.refusal ≡ 0 → {facts : ℕ} → facts ≡ F s → {w₁ : Writer} →
+      Writes w w₁ (layer_lines facts (take told.length found₁)) → WritesLayers s w w₁
+  layers-written z f v =
+      said-writes
+      (writes-is v (ap (λ n. layer_lines n (take told.length found₁)) f ∙ sym (text-layers (F s) told (take told.length found₁) z)))
 
-  -- the refusal stands in the output,
-  module _ {out₁ : List ℕ} {at : ℕ} (u : Wrote out out₁ 0 at (refused_text told.refusal told.detail)) where
+  -- the refusal is written,
+  module _ {w₁ : Writer} (u : Writes w w₁ (refused_text told.refusal told.detail)) where
     -- at 24 the rules' lines can follow,
-    pub rule-lines-asked : told.refusal ≡ 24 → RuleLinesAsked (take told.length found₁) out₁ at
+    pub rule-lines-asked : told.refusal ≡ 24 → RuleLinesAsked (take told.length found₁) w₁
     rule-lines-asked z =
         let (n, formed, d, e) = told-chained is z in
         let count : u16 (take told.length found₁) 0 ≡ n = ap (λ l. u16 (take l found₁) 0) e ∙ chain-count d in
@@ -84,15 +84,14 @@ module _ {s found out found₁ : List ℕ} {told : Told} (q : AnswerAsked found 
         record {
           whole = omega arith;
           few = omega (arith, d.few);
-          begins = omega (arith, u.end, refused-most told.refusal told.detail);
-          room = omega (arith, wrote-length u, q.room);
+          room = omega (arith, u.wrote.end, refused-most told.refusal told.detail, wrote-length u.wrote, q.room);
         }
 
-    pub chain-printed : told.refusal ≡ 24 → {out₂ : List ℕ} {r : ℕ} →
-        Wrote out₁ out₂ at r (rule_lines (chain_in (take told.length found₁))) → LayersPrinted s out out₂ r
-    chain-printed z w = said-printed (wrote-is (wrote_then u w) (sym (text-chain (F s) told (take told.length found₁) z)))
+    pub chain-written : told.refusal ≡ 24 → {w₂ : Writer} →
+        Writes w₁ w₂ (rule_lines (chain_in (take told.length found₁))) → WritesLayers s w w₂
+    chain-written z v = said-writes (writes-is (writes_then u v) (sym (text-chain (F s) told (take told.length found₁) z)))
 
     -- and at another nothing does
-    pub refused-printed : (told.refusal ≡ 0 → ⊥) → (told.refusal ≡ 24 → ⊥) → LayersPrinted s out out₁ at
-    refused-printed some other =
-        said-printed (wrote-is u (sym (text-refused (F s) told (take told.length found₁) some other)))
+    pub refused-written : (told.refusal ≡ 0 → ⊥) → (told.refusal ≡ 24 → ⊥) → WritesLayers s w w₁
+    refused-written some other =
+        said-writes (writes-is u (sym (text-refused (F s) told (take told.length found₁) some other)))

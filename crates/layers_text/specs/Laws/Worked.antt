@@ -19,7 +19,7 @@ use Rattle.layers_text.specs.Laws.Exact.{layers-said-exact}
 
 formed-S : Formed file_s
 unfolding verdict_by decode u16 u32 layer_of total
-formed-S = formed file_s {f = 2} {d = 4} {r = 5} {t = 20} refl
+formed-S = formed file_s {a = record { facts = 2; derived = 4; rules = 5; total = 20 }} refl
 
 abbrev layers_s : List ℕ
 layers_s = 1 ∷ 1 ∷ 1 ∷ 2 ∷ []

@@ -1,6 +1,7 @@
 -- Tests and lists of tests: what `T` of `||`, `&&`, `any` and `all` says, and what stands where in `upto`.
 -- The meaning is written with Bool tests, so that it computes; the laws read them as statements by these lemmas.
 use Rattle.std.specs.Prelude.{◌≡◌, ◌⊎◌, Bool, true, false, ◌&&◌, ◌||◌, eqb, length, get_or}
+use Rattle.std.specs.List.{list_all, list_any}
 use Rattle.std.proofs.Math.Path.{refl, ap}
 use Rattle.std.proofs.Common.{subst, inl, inr}
 use mathlib.Core.List.{List, [], ◌∷◌, Memᴰ}
@@ -63,6 +64,18 @@ pub eqb_of : {m n : ℕ} → m ≡ n → T (eqb m n)
 eqb_of {m} {n} e = subst (λ x. T (eqb m x)) e (eqb_refl m)
 
 -- ---- lists of tests
+
+module _ {A : Type 0} (f : A → Bool) where
+  -- what std says of `Iterator::all` and of `Iterator::any` is `all` and `any`
+  pub all_is : (l : List A) → list_all f l ≡ all f l
+  unfolding all
+  all_is [] = refl
+  all_is (x ∷ l) = ap (λ b. f x && b) (all_is l)
+
+  pub any_is : (l : List A) → list_any f l ≡ any f l
+  unfolding any
+  any_is [] = refl
+  any_is (x ∷ l) = ap (λ b. f x || b) (any_is l)
 
 module _ {A : Type 0} where
   -- `any` passes where a member does,

@@ -1,34 +1,29 @@
--- `reach_close` meets its contract: 36 first, then the used parts of the lent memory are handed on. Assumes nothing.
-use Rattle.std.specs.Prelude.{not}
+-- `reach_close` meets its contract: what fits is handed on in its used parts, and else the answer is 36 (Laws/Parts).
+use Rattle.std.specs.Prelude.{refl, not}
 use Rattle.std.proofs.Common.{ap}
-use Rattle.calls.specs.Calls.{stepped}
 use Rattle.calls.specs.Laws.Tables.{gives, misfit}
-use Rattle.calls.specs.Laws.Parts.{room-size, places-fit, long-enough, parts-fit}
+use Rattle.calls.specs.Laws.Parts.{places-fit, long-enough, parts-fit}
 use Rattle.calls.specs.Laws.Stepping.{close-parts}
 use Rattle.reach.proofs.reach_close.Goals as goal
 
 pub returns-then-not-fits : goal.returns-then-not-fits
 returns-then-not-fits c =
-    gives (misfit c.fits.ensures (ap not c.if-not-fits.true)
-    (λ i. stepped (c.refused.ensures i) c.args.nodes.now c.args.places.now))
-
-pub slice_bounds-close-end-2 : goal.slice_bounds-close-end-2
-slice_bounds-close-end-2 c =
-    room-size c.args.nodes.now c.room-room.ensures
+    rw c.of.ensures (gives (misfit c.fits.ensures (ap not c.if-not-fits.true) refl))
 
 pub slice_bounds-close-end-3 : goal.slice_bounds-close-end-3
-slice_bounds-close-end-3 c =
-    long-enough _ _ _ c.args.state c.fits.ensures (ap not c.if-not-fits.false)
+slice_bounds-close-end-3 c = long-enough _ _ _ c.args.state c.fits.ensures (ap not c.if-not-fits.false)
 
 pub slice_bounds-close-end-4 : goal.slice_bounds-close-end-4
-slice_bounds-close-end-4 c =
-    places-fit _ _ _ c.args.state c.fits.ensures (ap not c.if-not-fits.false)
+slice_bounds-close-end-4 c = places-fit _ _ _ c.args.state c.fits.ensures (ap not c.if-not-fits.false)
 
-pub close-requires : goal.close-requires
-close-requires c =
-    parts-fit _ _ _ c.args.state c.fits.ensures (ap not c.if-not-fits.false) c.room-room.ensures
+pub of-program-requires : goal.of-program-requires
+of-program-requires c = (parts-fit _ _ _ c.args.state c.fits.ensures (ap not c.if-not-fits.false) refl).passed.long
+
+pub close-next-requires : goal.close-next-requires
+close-next-requires c =
+    rw c.of-program.ensures (parts-fit _ _ _ c.args.state c.fits.ensures (ap not c.if-not-fits.false) c.room-room.ensures)
 
 pub returns : goal.returns
 returns c =
-    close-parts _ _ _ c.args.state c.fits.ensures (ap not c.if-not-fits.false) c.room-room.ensures
-    c.close.ensures
+    rw c.of-2.ensures (close-parts _ _ _ c.args.state c.fits.ensures (ap not c.if-not-fits.false) c.room-room.ensures
+    (rw c.of-program.ensures at c.close-next.ensures))

@@ -1,30 +1,26 @@
 -- `reach_weight` meets its contract: what fits is handed on in its used parts, and else the answer is 36 (Laws/Parts).
-use Rattle.std.specs.Prelude.{not}
+use Rattle.std.specs.Prelude.{refl, not}
 use Rattle.std.proofs.Common.{ap}
-use Rattle.calls.specs.Calls.{weighing}
 use Rattle.calls.specs.Laws.Tables.{gives, misfit}
-use Rattle.calls.specs.Laws.Parts.{room-size, places-fit, parts-fit}
+use Rattle.calls.specs.Laws.Parts.{places-fit, parts-fit}
 use Rattle.calls.specs.Laws.Questioning.{weight-parts}
 use Rattle.reach.proofs.reach_weight.Goals as goal
 
 pub returns-then-not-fits : goal.returns-then-not-fits
 returns-then-not-fits c =
-    gives (misfit c.fits.ensures (ap not c.if-not-fits.true)
-    (λ i. weighing (c.no_weight.ensures i) c.args.nodes.now c.args.places.now c.args.numbers.now))
-
-pub slice_bounds-weight-end : goal.slice_bounds-weight-end
-slice_bounds-weight-end c =
-    room-size c.args.nodes.now c.room-room.ensures
+    rw c.of.ensures (gives (misfit c.fits.ensures (ap not c.if-not-fits.true) refl))
 
 pub slice_bounds-weight-end-2 : goal.slice_bounds-weight-end-2
-slice_bounds-weight-end-2 c =
-    places-fit _ _ _ c.args.state c.fits.ensures (ap not c.if-not-fits.false)
+slice_bounds-weight-end-2 c = places-fit _ _ _ c.args.state c.fits.ensures (ap not c.if-not-fits.false)
 
-pub weight-requires : goal.weight-requires
-weight-requires c =
-    parts-fit _ _ _ c.args.state c.fits.ensures (ap not c.if-not-fits.false) c.room-room.ensures
+pub of-program-requires : goal.of-program-requires
+of-program-requires c = (parts-fit _ _ _ c.args.state c.fits.ensures (ap not c.if-not-fits.false) refl).passed.long
+
+pub weight-weight-requires : goal.weight-weight-requires
+weight-weight-requires c =
+    rw c.of-program.ensures (parts-fit _ _ _ c.args.state c.fits.ensures (ap not c.if-not-fits.false) c.room-room.ensures)
 
 pub returns : goal.returns
 returns c =
-    weight-parts _ _ _ c.args.state c.fits.ensures (ap not c.if-not-fits.false) c.room-room.ensures c.args.atom
-    c.args.numbers.now c.weight.ensures
+    rw c.of-2.ensures (weight-parts _ _ _ c.args.state c.fits.ensures (ap not c.if-not-fits.false) c.room-room.ensures
+    c.args.atom c.args.numbers.now (rw c.of-program.ensures at c.weight-weight.ensures))

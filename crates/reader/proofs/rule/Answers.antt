@@ -1,22 +1,25 @@
--- `reader::rule` meets its contract: each round of its loop is a turn of a reader of the file (Laws/Places).
-use Rattle.std.proofs.Common.{◌≡◌, arith}
-use Rattle.reader.proofs.Laws.Places.{Turn, first-place, turned}
+-- `reader::rule` meets its contract: a reader that is at the end stays there (Laws/Places).
+use Rattle.std.proofs.Common.{◌≡◌, ◌-◌, add-one, arith, rules, None}
+use Rattle.format.specs.Walk.{step_at}
+use Rattle.reader.specs.Read.{place_of}
+use Rattle.reader.proofs.Laws.Places.{stays}
 use Rattle.reader.proofs.rule.Goals as goal
 
-pub loop-left-init : goal.loop-left-init
-loop-left-init c =
-    let first = first-place c.args.file.now c.args.j in
-    (cc, omega arith, cc)
+pub loop-init : goal.loop-init
+unfolding place_of
+loop-init c = search rules
 
-pub loop-left-preserved : goal.loop-left-preserved
-loop-left-preserved c =
-    let turn : Turn c.args.file.now c.args.j = record {
-      left = c.loop-left.left;
-      at = c.loop-left.reader.at;
-      within = c.loop-left.invariant.1;
-      stands = c.loop-left.invariant.2;
-    } in
-    let onward = turned turn c.loop-left-test.true in
-    let left : c.left_after-left.result ≡ onward.left = cc in
-    let at : c.next.new.self.at ≡ onward.at = cc in
-    (cc, omega (arith, left, onward.within), cc (left, at, onward.stands))
+pub returns-in_err-next : goal.returns-in_err-next
+returns-in_err-next c =
+    let s = c.args.file.now in
+    let i = c.loop.counter in
+    let e = c.in_err-next.ensures in
+    let last : step_at s (place_of s i) ≡ None = cc in
+    let here = stays s i last (c.args.j - i) c.args.j (omega arith) in
+    cc
+
+pub loop-preserved : goal.loop-preserved
+unfolding place_of
+loop-preserved c =
+    let h = c.in_ok-next.ensures in
+    rw add-one (search rules)

@@ -1,13 +1,11 @@
 -- No text is longer than the output that `report` asks for.
-use Rattle.std.specs.Prelude.{◌≡◌, refl, List, ℕ, ◌≤◌, length}
+use Rattle.std.specs.Prelude.{Ok, Err, ◌≡◌, refl, List, ℕ, ◌≤◌, length}
 use native.Mathlib.Omega.{arith}
 use Rattle.std.proofs.Math.ListN.{length-append}
 use Rattle.meaning.specs.Meaning.{Program, atoms, total}
 use Rattle.format.specs.File.{decode}
-use Rattle.format.specs.Refusals.{verdict, number, detail}
+use Rattle.format.specs.Refusals.{Verdict, verdict, number, detail}
 use Rattle.format.specs.Laws.Accepted.{passed}
-use Rattle.format.specs.declared.Verdict.{Verdict}
-use Rattle.format.specs.declared.Verdict.TheVariants.{Accepted, Refused}
 use Rattle.update.specs.Update.{Store}
 use Rattle.rounds.specs.Load.{Loaded, loaded, load_full, load}
 use Rattle.rounds.specs.Run.{How, Finished, Spent, Full, run}
@@ -45,8 +43,8 @@ module _ (P : Program) (few : atoms P ≤ 544) where
   loaded-short load_full = omega (arith, full-short 0)
 
 verdict-short : (s : List ℕ) (v : Verdict) → verdict s ≡ v → length (verdict_text s v) ≤ 16384
-verdict-short s (Refused w) e = omega (arith, refused-most (number w) (detail w))
-verdict-short s (Accepted f d r t) e = loaded-short (decode s) (accepted-few (passed s e)) (load (decode s) 4096)
+verdict-short s (Err w) e = omega (arith, refused-most (number w) (detail w))
+verdict-short s (Ok a) e = loaded-short (decode s) (accepted-few (passed s e)) (load (decode s) 4096)
 
 -- every text has room
 pub said-length : (s : List ℕ) → length (said s) ≤ 16384

@@ -1,10 +1,6 @@
--- `runs::run_all` meets its contract. The loop's invariant: `at` is within the input; the measure is what is left of it. Assumes nothing.
-use Prim.Native.Nat.{◌≤◌, ◌-◌}
+-- `runs::run_all` ends: each job leaves less of the input.
 use lib.ListN.{length}
 use Rattle.runs.proofs.run_all.Given as goal
 
-abbrev pub invariant-loop-at : goal.invariant-loop-at
-invariant-loop-at l = l.at ≤ length l.input
-
-abbrev pub decreases-loop-at : goal.decreases-loop-at
-decreases-loop-at l = length l.input - l.at
+abbrev pub decreases-loop-rest : goal.decreases-loop-rest
+decreases-loop-rest l = length l.rest

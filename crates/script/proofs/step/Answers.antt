@@ -1,44 +1,17 @@
--- `script::step` meets its contract: each operation by its law (Laws/Step). Assumes nothing.
-use Rattle.script.specs.Laws.Step.{
-  fact-asked,
-  fact-step,
-  first-there,
-  not-asked,
-  not_step,
-  second-there,
-  two-asked,
-  two-step,
-}
+-- `script::step` meets its contract: each operation by its law (Laws/Step).
+use Rattle.script.specs.Laws.Step.{fact-step, both-step, not-step}
 use Rattle.script.proofs.step.Goals as goal
 
-pub make-requires : goal.make-requires
-make-requires c =
-    fact-asked c.requires c.if-op-eq0.true
+pub returns-in-Fact : goal.returns-in-Fact
+returns-in-Fact c =
+    fact-step c.requires c.in-Fact.is c.make.ensures.lent c.make.result (rw c.from.ensures at c.make.ensures.built)
 
-pub returns-then-op-eq0 : goal.returns-then-op-eq0
-returns-then-op-eq0 c =
-    fact-step c.requires c.if-op-eq0.true c.make.new.nodes c.make.result c.make.ensures
+pub returns-in-Both : goal.returns-in-Both
+returns-in-Both c =
+    both-step c.requires c.in-Both.is c.combine.ensures.lent c.combine.ensures.image c.combine.result
+    (rw (c.from-in-Both.ensures, c.from-in-Both-2.ensures) at c.combine.ensures.built)
 
-pub bounds-results-x : goal.bounds-results-x
-bounds-results-x c =
-    first-there c.requires c.if-op-eq0.false
-
-pub negate_at-requires : goal.negate_at-requires
-negate_at-requires c =
-    not-asked c.requires c.if-op-eq0.false
-
-pub returns-then-op-eq3 : goal.returns-then-op-eq3
-returns-then-op-eq3 c =
-    not_step c.requires c.if-op-eq0.false c.if-op-eq3.true c.negate_at.result c.negate_at.ensures
-
-pub bounds-results-y : goal.bounds-results-y
-bounds-results-y c =
-    second-there c.requires c.if-op-eq0.false c.if-op-eq3.false
-
-pub combine_at-requires : goal.combine_at-requires
-combine_at-requires c =
-    two-asked c.requires c.if-op-eq0.false c.if-op-eq3.false
-
-pub returns : goal.returns
-returns c =
-    two-step c.requires c.if-op-eq0.false c.if-op-eq3.false c.combine_at.auto.memo c.combine_at.result c.combine_at.ensures
+pub returns-in-Not : goal.returns-in-Not
+returns-in-Not c =
+    not-step c.requires c.in-Not.is c.negate.ensures.lent c.negate.ensures.memo c.negate.result
+    (rw c.from-in-Not.ensures at c.negate.ensures.built)

@@ -1,10 +1,8 @@
 -- `format::validate::check_by` meets its contract: after each part, the tests that are left answer what the whole check answers.
-use mathlib.Core.Bool.{Bool}
-use mathlib.Core.List.{List}
-use Prim.Native.Nat.{ℕ}
-use Rattle.format.specs.File.{F}
-use Rattle.format.specs.Refusals.{Test, counts_tests, offset_tests, fact_test, each}
-use Rattle.format.specs.Checked.{Answers, Framed, Counted}
+use Rattle.std.proofs.Common.{◌≡◌, Bool, List, ℕ, sym, subst, arith, Some}
+use Rattle.std.proofs.lemmas.Result.{err_from_is_err_and}
+use Rattle.format.specs.Refusals.{Test, verdict_by}
+use Rattle.format.specs.Checked.{Totalled}
 use Rattle.format.specs.Laws.FactsRead.{weighted}
 use Rattle.format.specs.Laws.Whole.{
   after1,
@@ -15,152 +13,111 @@ use Rattle.format.specs.Laws.Whole.{
   after6,
   after7,
   Left,
-  answers-is,
-  too_short,
-  too_long,
+  unfit,
   sized,
   passes,
   refuses,
   refuses-last,
   accepts,
   total-passes,
-  total-is,
   total-fails,
   framed,
 }
-use Rattle.format.specs.declared.validate.Found.TheVariants.{Nothing}
 use Rattle.format.proofs.validate.check_by.Goals as goal
 use Rattle.format.proofs.validate.check_by.Goals.{
-  After-u16_at-rules,
-  Else-file-gt65536,
-  In-Total,
-  In_default,
-  In_default-counts,
-  In_default-layerless,
-  In_default-offsets,
-  In_default-weightless,
   Start,
+  Else-file-gt65536,
+  After-of-program,
+  In_ok-counts,
+  In_ok-offsets,
+  In_ok-weightless,
+  In_ok-total,
+  In_ok-layerless,
 }
 
--- no fault in the counts,
-counts-pass : (c : In_default-counts) → Answers (counts_tests c.args.file.now) Nothing
-counts-pass c = answers-is c.counts.ensures c.in_default-counts.is
+abbrev LeftAt : (c : Start) → List ℕ → (Bool → List ℕ → List Test) → Type 0
+LeftAt c s after = Left (verdict_by c.args.layered c.args.file.now) s (after c.args.layered s)
 
--- in the offsets,
-offsets-pass : (c : In_default-offsets) → Answers (offset_tests c.args.file.now) Nothing
-offsets-pass c = answers-is c.offsets.ensures c.in_default-offsets.is
-
--- or in the facts
-facts-pass : (c : In_default-weightless) → Answers (each (F c.args.file.now) (fact_test c.args.file.now)) Nothing
-facts-pass c = answers-is c.weightless.ensures c.in_default-weightless.is
-
--- the file has passed 1 to 4,
-frame : (c : After-u16_at-rules) → Framed c.args.file.now
-frame c =
-    framed c.args.file.now c.if-file-gt65536.false (counts-pass (goal.at.After-u16_at-rules c).In_default-counts)
-    (offsets-pass (goal.at.After-u16_at-rules c).In_default-offsets)
-
--- and these are its counts of facts and derived atoms
-counted : (c : After-u16_at-rules) → Counted c.args.file.now c.u16_at-facts.result c.u16_at-derived.result
-counted c = record { facts_are = c.u16_at-facts.ensures.value; derived_are = c.u16_at-derived.ensures.value }
-
-abbrev LeftAt : (c : Start) → (Bool → List ℕ → List Test) → Type 0
-LeftAt c after = Left c.args.layered c.args.file.now (after c.args.layered c.args.file.now)
-
-left1 : (c : Else-file-gt65536) → LeftAt (goal.at.Else-file-gt65536 c).Start after1
+left1 : (c : Else-file-gt65536) → LeftAt (goal.at.Else-file-gt65536 c).Start c.args.file.now after1
 left1 c = sized c.args.layered c.args.file.now c.if-file-lt28.false c.if-file-gt65536.false
 
-left2 : (c : In_default) → LeftAt (goal.at.In_default c).Start after2
+left2 : (c : After-of-program) → LeftAt (goal.at.After-of-program c).Start c.of-program.result.file.now after2
 left2 c =
-    passes _ _ (left1 (goal.at.In_default c).Else-file-gt65536) (answers-is c.contents.ensures c.in_default.is)
+    subst (λ f. LeftAt (goal.at.After-of-program c).Start f.now after2) (sym c.of-program.ensures)
+    (passes _ _ (left1 (goal.at.After-of-program c).Else-file-gt65536) c.in_ok-contents.ensures)
 
-left3 : (c : In_default-counts) → LeftAt (goal.at.In_default-counts c).Start after3
-left3 c = passes _ _ (left2 (goal.at.In_default-counts c).In_default) (counts-pass c)
+left3 : (c : In_ok-counts) → LeftAt (goal.at.In_ok-counts c).Start c.of-program.result.file.now after3
+left3 c = passes _ _ (left2 (goal.at.In_ok-counts c).After-of-program) c.in_ok-counts.ensures
 
-left4 : (c : In_default-offsets) → LeftAt (goal.at.In_default-offsets c).Start after4
-left4 c = passes _ _ (left3 (goal.at.In_default-offsets c).In_default-counts) (offsets-pass c)
+left4 : (c : In_ok-offsets) → LeftAt (goal.at.In_ok-offsets c).Start c.of-program.result.file.now after4
+left4 c = passes _ _ (left3 (goal.at.In_ok-offsets c).In_ok-counts) c.in_ok-offsets.ensures
 
-left5 : (c : In_default-weightless) → LeftAt (goal.at.In_default-weightless c).Start after5
-left5 c = passes _ _ (left4 (goal.at.In_default-weightless c).In_default-offsets) (facts-pass c)
+left5 : (c : In_ok-weightless) → LeftAt (goal.at.In_ok-weightless c).Start c.of-program.result.file.now after5
+left5 c = passes _ _ (left4 (goal.at.In_ok-weightless c).In_ok-offsets) c.in_ok-weightless.ensures
 
-left6 : (c : In-Total) → LeftAt (goal.at.In-Total c).Start after6
-left6 c =
-    passes _ _ (left5 (goal.at.In-Total c).In_default-weightless)
-    (total-passes c.args.file.now c.product.ensures c.in-Total.is)
+totalled : (c : In_ok-total) → Totalled c.of-program.result.file.now (Some c.in_ok-total.total)
+totalled c = let e : c.product.result ≡ Some c.in_ok-total.total = grind arith in rw e at c.product.ensures
 
-left7 : (c : In_default-layerless) → LeftAt (goal.at.In_default-layerless c).Start after7
-left7 c =
-    passes _ _ (left6 (goal.at.In_default-layerless c).In-Total) (answers-is c.layerless.ensures c.in_default-layerless.is)
+left6 : (c : In_ok-total) → LeftAt (goal.at.In_ok-total c).Start c.of-program.result.file.now after6
+left6 c = passes _ _ (left5 (goal.at.In_ok-total c).In_ok-weightless) (total-passes c.of-program.result.file.now (totalled c))
+
+left7 : (c : In_ok-layerless) → LeftAt (goal.at.In_ok-layerless c).Start c.of-program.result.file.now after7
+left7 c = passes _ _ (left6 (goal.at.In_ok-layerless c).In_ok-total) c.in_ok-layerless.ensures
 
 pub returns-then-file-lt28 : goal.returns-then-file-lt28
-returns-then-file-lt28 c =
-    too_short c.args.layered c.args.file.now c.if-file-lt28.true
+returns-then-file-lt28 c = unfit c.args.layered c.args.file.now (λ h k. omega arith)
 
-pub returns-then-file-gt65536 : goal.returns-then-file-gt65536
-returns-then-file-gt65536 c =
-    too_long c.args.layered c.args.file.now c.if-file-lt28.false c.if-file-gt65536.true
+pub returns-in_err-contents : goal.returns-in_err-contents
+returns-in_err-contents c =
+    let p = err_from_is_err_and c.from_residual.result c.from_residual.ensures.1 in
+    rw (p.1, p.2) (refuses _ _ (left1 (goal.at.returns-in_err-contents c).Else-file-gt65536) c.in_err-contents.ensures)
 
-pub returns-in-Fault : goal.returns-in-Fault
-returns-in-Fault c =
-    refuses _ _ (left1 (goal.at.returns-in-Fault c).Else-file-gt65536) (answers-is c.contents.ensures c.in-Fault.is)
+pub returns-in_err-counts : goal.returns-in_err-counts
+returns-in_err-counts c =
+    let p = err_from_is_err_and c.from_residual-in_err-counts.result c.from_residual-in_err-counts.ensures.1 in
+    rw (p.1, p.2) (refuses _ _ (left2 (goal.at.returns-in_err-counts c).After-of-program) c.in_err-counts.ensures)
 
-pub returns-in-Fault-counts : goal.returns-in-Fault-counts
-returns-in-Fault-counts c =
-    refuses _ _ (left2 (goal.at.returns-in-Fault-counts c).In_default) (answers-is c.counts.ensures c.in-Fault-counts.is)
+pub returns-in_err-offsets : goal.returns-in_err-offsets
+returns-in_err-offsets c =
+    let p = err_from_is_err_and c.from_residual-in_err-offsets.result c.from_residual-in_err-offsets.ensures.1 in
+    rw (p.1, p.2) (refuses _ _ (left3 (goal.at.returns-in_err-offsets c).In_ok-counts) c.in_err-offsets.ensures)
 
-pub returns-in-Fault-offsets : goal.returns-in-Fault-offsets
-returns-in-Fault-offsets c =
-    refuses _ _ (left3 (goal.at.returns-in-Fault-offsets c).In_default-counts) (answers-is c.offsets.ensures c.in-Fault-offsets.is)
-
-pub weightless-requires : goal.weightless-requires
-weightless-requires c = record { framed = frame c; facts_value = (counted c).facts_are }
-
-pub returns-in-Fault-weightless : goal.returns-in-Fault-weightless
-returns-in-Fault-weightless c =
-    refuses _ _ (left4 (goal.at.returns-in-Fault-weightless c).In_default-offsets)
-    (answers-is c.weightless.ensures c.in-Fault-weightless.is)
-
-pub product-requires : goal.product-requires
-product-requires c =
-    record {
-      weighted = record {
-        framed = frame (goal.at.product-requires c).After-u16_at-rules;
-        weights = weighted c.args.file.now (facts-pass c);
-      };
-      facts_value = (counted (goal.at.product-requires c).After-u16_at-rules).facts_are;
-    }
-
-pub returns-in_default-product : goal.returns-in_default-product
-returns-in_default-product c =
-    refuses _ _ (left5 (goal.at.returns-in_default-product c).In_default-weightless)
-    (total-fails c.args.file.now c.product.ensures c.in_default-product.is)
-
-pub layerless-requires : goal.layerless-requires
-layerless-requires c = record {
-  framed = frame (goal.at.layerless-requires c).After-u16_at-rules;
-  counted = counted (goal.at.layerless-requires c).After-u16_at-rules;
+pub invariant_of-tables : goal.invariant_of-tables
+invariant_of-tables c = record {
+  framed =
+      framed c.of-program.result.file.now (rw c.of-program.ensures c.if-file-gt65536.false) c.in_ok-counts.ensures c.in_ok-offsets.ensures;
 }
 
-pub returns-in-Fault-layerless : goal.returns-in-Fault-layerless
-returns-in-Fault-layerless c =
-    refuses _ _ (left6 (goal.at.returns-in-Fault-layerless c).In-Total) (answers-is c.layerless.ensures c.in-Fault-layerless.is)
+pub returns-in_err-weightless : goal.returns-in_err-weightless
+returns-in_err-weightless c =
+    let p = err_from_is_err_and c.from_residual-in_err-weightless.result c.from_residual-in_err-weightless.ensures.1 in
+    rw (p.1, p.2) (refuses _ _ (left4 (goal.at.returns-in_err-weightless c).In_ok-offsets) c.in_err-weightless.ensures)
 
-pub misruled-requires : goal.misruled-requires
-misruled-requires c =
-    record {
-      framed = frame (goal.at.misruled-requires c).After-u16_at-rules;
-      counted = counted (goal.at.misruled-requires c).After-u16_at-rules;
-      rules_value = c.u16_at-rules.ensures.value;
-    }
+pub product-requires : goal.product-requires
+product-requires c = weighted c.of-program.result.file.now c.in_ok-weightless.ensures
 
-pub returns-in-Fault-misruled : goal.returns-in-Fault-misruled
-returns-in-Fault-misruled c =
-    refuses-last c.args.layered c.args.file.now (left7 (goal.at.returns-in-Fault-misruled c).In_default-layerless)
-    (answers-is c.misruled.ensures c.in-Fault-misruled.is)
+pub returns-in_err-total : goal.returns-in_err-total
+returns-in_err-total c =
+    let p = err_from_is_err_and c.from_residual-in_err-total.result c.from_residual-in_err-total.ensures.1 in
+    rw (p.1, p.2)
+    (refuses _ _ (left5 (goal.at.returns-in_err-total c).In_ok-weightless)
+    (total-fails c.of-program.result.file.now c.product.result c.product.ensures c.in_err-total.ensures.value))
+
+pub returns-in_err-layerless : goal.returns-in_err-layerless
+returns-in_err-layerless c =
+    let p = err_from_is_err_and c.from_residual-in_err-layerless.result c.from_residual-in_err-layerless.ensures.1 in
+    rw (p.1, p.2) (refuses _ _ (left6 (goal.at.returns-in_err-layerless c).In_ok-total) c.in_err-layerless.ensures)
+
+pub returns-in_err-misruled : goal.returns-in_err-misruled
+returns-in_err-misruled c =
+    let p = err_from_is_err_and c.from_residual-in_err-misruled.result c.from_residual-in_err-misruled.ensures.1 in
+    rw (p.1, p.2)
+    (refuses-last c.args.layered c.of-program.result.file.now (left7 (goal.at.returns-in_err-misruled c).In_ok-layerless)
+    c.in_err-misruled.ensures)
 
 pub returns : goal.returns
 returns c =
-    accepts c.args.layered c.args.file.now (left7 (goal.at.returns c).In_default-layerless)
-    (answers-is c.misruled.ensures c.in_default-misruled.is)
-    c.u16_at-facts.ensures.value c.u16_at-derived.ensures.value c.u16_at-rules.ensures.value
-    (total-is c.args.file.now c.product.ensures c.in-Total.is)
+    let p = c.of-program.result.counted in
+    accepts c.args.layered c.of-program.result.file.now (left7 (goal.at.returns c).In_ok-layerless) c.in_ok-misruled.ensures
+    p.facts_are p.derived_are p.rules_are
+    (totalled (goal.at.returns c).In_ok-total).0

@@ -1,11 +1,7 @@
--- `layering::rising::pass` meets its contract. The loop's invariant: the rules below `j` had their turns, and rule `j` starts at `at`; the
--- measure is the number of rules left. Assumes nothing.
-use Prim.Native.Nat.{◌-◌}
+-- `layering::rising::pass` meets its contract. The loop's invariant: the rules below the counter had their turns, and the next one starts
+-- at `at`. Assumes nothing.
 use Rattle.layering.specs.Laws.Turns.{Turned}
 use Rattle.layering.proofs.rising.pass.Given as goal
 
-abbrev pub invariant-loop-j : goal.invariant-loop-j
-invariant-loop-j l = Turned l.file l.initial.layers l.layers l.changed l.at l.j
-
-abbrev pub decreases-loop-j : goal.decreases-loop-j
-decreases-loop-j l = l.rules - l.j
+abbrev pub invariant-loop : goal.invariant-loop
+invariant-loop l = Turned l.program.file.now l.initial.layers l.layers l.changed l.at l.counter

@@ -1,8 +1,8 @@
 -- `report::lines::header` meets its contract: its parts make the text. Assumes nothing.
-use Rattle.report.specs.Laws.Texts.{header-wrote}
+use Rattle.report.specs.Laws.Texts.{header-writes}
 use Rattle.report.proofs.lines.header.Goals as goal
 
 pub returns : goal.returns
 returns c =
-    header-wrote c.args.derived c.put_named-at.ensures c.put_named-at-2.ensures c.put_named-at-3.ensures
-    c.put_named-at-4.ensures c.put.ensures
+    header-writes c.args.program.derived (rw (← c.atoms.ensures) c.named.ensures) c.named-2.ensures c.named-3.ensures
+    c.named-4.ensures c.put.ensures
