@@ -4,11 +4,11 @@ use store::word;
 
 const STDOUT_FILENO: i32 = 1;
 
-pub fn text(words: &[u8]) {
+pub(crate) fn text(words: &[u8]) {
     io::write_all(STDOUT_FILENO, words);
 }
 
-pub fn number(n: impl Into<u64>) {
+pub(crate) fn number(n: impl Into<u64>) {
     io::print_decimal(STDOUT_FILENO, n.into());
 }
 
@@ -36,11 +36,11 @@ fn node(word: u32) {
 }
 
 // A line of the nodes that these words stand for.
-pub fn nodes(words: &[u32]) {
+pub(crate) fn nodes(words: &[u32]) {
     line(words, node);
 }
 
 // A line of numbers.
-pub fn numbers<N: Copy + Into<u64>>(ns: &[N]) {
+pub(crate) fn numbers<N: Copy + Into<u64>>(ns: &[N]) {
     line(ns, number);
 }

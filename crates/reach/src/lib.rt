@@ -1,8 +1,8 @@
 // The calls of include/reach.h, for any file, any memory and any numbers; crate reach_c exports them to C.
 //
 // Each call tests what 01 says it tests, in 01's order, hands the parts of the lent memory that are used to the crate that does the work,
-// and gives its answer in C's numbers (calls/specs/Calls.antt). The six calls over a store open alike, each with a refusal in a struct of its
-// own: one function for the openings would be no shorter than the lines.
+// and gives its answer in C's numbers (calls/specs/Calls.antt). The six calls over a store open alike, each with a refusal in a struct of
+// its own: one function for the openings would be no shorter than the lines.
 #![tactic(auto)]
 
 ghost use Rattle.std.specs.Prelude.{◌≡◌};
