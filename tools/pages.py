@@ -114,7 +114,7 @@ def helpers(f):
 def rattle_names(text):
     """Functions, structs, enums with their variants, types with methods, constants, modules, labels, fields, parameters, locals."""
     text = re.sub(r"//.*", "", text)
-    names = set(re.findall(r"\b(?:fn|struct|enum|impl|const|mod|let|let mut) (\w+)", text)) | set(re.findall(r"'\w+", text))
+    names = set(re.findall(r"\b(?:fn|struct|enum|impl(?:<[^>]*>)?|const|mod|let|let mut) (\w+)", text)) | set(re.findall(r"'\w+", text))
     return names | set(re.findall(r"\b(\w+): ", text)) | set(re.findall(r"(?m)^\s+([A-Z]\w*)\b[ ]*[,{(]", text))
 
 

@@ -2,6 +2,7 @@
 #![tactic(auto)]
 
 ghost use Rattle.std.specs.Prelude.{◌||◌, ◌≡◌, map, min, eqb};
+ghost use Rattle.meaning.specs.Lists.{all};
 ghost use Rattle.format.specs.File.{decode};
 ghost use Rattle.format.specs.Passed.{Passed};
 ghost use Rattle.store.specs.Store.{unpack};
@@ -41,6 +42,17 @@ fn as_loaded(nodes: &[u32], places: &[u16], facts: usize) -> bool
     true
 }
 
+// Whether all words are 0. All are looked at: a loop with no way out tests several at once.
+fn all_zero(words: &[u32]) -> bool
+    ensures { result ≡ all (eqb 0) words.now }
+{
+    let mut zero = true;
+    for &word in words {
+        zero &= word == 0;
+    }
+    zero
+}
+
 // Whether the layer in work has atoms or the run is finished.
 fn in_work(program: Program, layer: u32) -> bool
     requires { Passed program.file.now }
@@ -61,7 +73,7 @@ fn fits_in(program: Program, nodes: &[u32], places: &[u16], state: State) -> boo
     let (used, unused) = nodes.split_at(count);
     let (atoms, others) = places.split_at(program.atoms());
     as_loaded(used, places, program.facts)
-        && unused.iter().all(|&word| word == 0)
+        && all_zero(unused)
         && others.iter().all(|&place| place == 0)
         && atoms.iter().all(|&place| usize::from(place) < count + 2)
         && in_work(program, state.layer)

@@ -22,7 +22,9 @@ fn asked(program: Program, layers: &[u32], at: usize, len: usize) -> u32
         if program.facts <= lit / 2 {
             layer += layers[lit / 2 - program.facts];
         }
-        most = layer.max(most);
+        if most < layer {
+            most = layer;
+        }
     }
     most
 }

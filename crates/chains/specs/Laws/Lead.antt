@@ -97,12 +97,16 @@ module _ {s : List ℕ} {lit x rule k : ℕ} {found : Search} (q : LeadAsked s l
 
       module _ (new : get_or found.entry (2 * (lit / 2 - facts) + f) 0 ≤ 0) where
         -- or is put behind those known, for which there is room
+        pub lead-room : found.count < 1024
+        lead-room =
+            let less = trail-less q.going.tables.trail (2 * (lit / 2 - facts) + f) place-low (omega arith) in
+            omega (arith, q.going.formed.derived)
+
         pub lead-asked : AddAsked (2 * (lit / 2 - facts) + f) k rule found
         lead-asked =
-            let less = trail-less q.going.tables.trail (2 * (lit / 2 - facts) + f) place-low (omega arith) in
             let f = q.going.formed in
             record {
-              room = omega (arith, f.derived);
+              room = lead-room;
               place_low = omega (arith, place-low, f.derived);
               entry_low = lead-entry;
               rule_low = omega (arith, q.going.is_rule, f.rules);

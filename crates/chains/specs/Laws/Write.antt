@@ -1,19 +1,32 @@
 -- Writing the rules on the way to an entry, the last one first: what is written grows towards the front, and in the end their number
 -- stands before them.
-use Rattle.std.specs.Prelude.{◌≡◌, refl, ℕ, ◌+◌, ◌*◌, ◌-◌, ◌≤◌, ◌<◌, length, get_or}
+use Rattle.std.specs.Prelude.{◌≡◌, refl, ℕ, suc, ◌+◌, ◌*◌, ◌-◌, ◌/◌, ◌%◌, ◌≤◌, ◌<◌, length, get_or, set}
 use Rattle.std.proofs.Math.Path.{sym}
-use Rattle.std.proofs.Common.{ap, ◌∙◌, length-append, take-append-drop}
+use Rattle.std.proofs.Common.{ap, ◌∙◌, length-append, take-append-drop, drop-cons}
 use mathlib.Core.List.{List, [], ◌∷◌, ◌++◌, map, flatten, append_assoc, append-nil}
 use Rattle.std.proofs.Math.Decide.{ℕ_discrete}
 use native.Mathlib.Omega.{arith}
+use Rattle.std.proofs.Math.Numerals.{add-two}
 use Rattle.std.proofs.Math.ListN.{take, drop}
 use Rattle.std.proofs.Math.Seq.{length-take-le, take-take, drop-append_seam}
-use Rattle.std.proofs.lemmas.List.{take-append-le}
+use Rattle.std.proofs.lemmas.List.{take-append-le, set_at, set_split}
 use Rattle.format.specs.Encode.{two}
 use Rattle.chains.specs.Calls.{way_to}
 use Rattle.chains.specs.declared.search.Search.{Search}
 use Rattle.chains.specs.Searching.{Counted, RulesAsked, RulesDone}
 use Rattle.chains.specs.Laws.Way.{way-none, way_step, way-short}
+
+-- two entries stored one behind the other
+pub put_two : (out : List ℕ) (at n : ℕ) → at + 2 ≤ length out →
+    set (set out at (n % 256)) (at + 1) (n / 256) ≡ take at out ++ (two n ++ drop (at + 2) out)
+unfolding two
+put_two out at n h =
+    let first : set out at (n % 256) ≡ (take at out ++ (n % 256 ∷ [])) ++ drop (suc at) out =
+    set_split out at (n % 256) (omega arith) ∙ sym (append_assoc (take at out) (n % 256 ∷ []) _) in
+    let size : length (take at out ++ (n % 256 ∷ [])) ≡ at + 1 = simp length-append (omega (arith, length-take-le at out (omega arith))) in
+    let second = set_at (take at out ++ (n % 256 ∷ [])) (get_or out (suc at) 0) (drop (suc (suc at)) out) (n / 256) (at + 1) size in
+    rw (first, drop-cons out (suc at) 0 (omega arith), second, add-two)
+    (append_assoc (take at out) (n % 256 ∷ []) _)
 
 -- those past entry i are written, behind a front that is as it was
 pub record Writing (from by out : List ℕ) (k n : ℕ) (out₁ : List ℕ) (i at : ℕ) : Type 0 where
@@ -72,6 +85,7 @@ module _ {found : Search} {out : List ℕ} {k : ℕ} (q : RulesAsked found out k
     last-is : 0 < i → way i ≡ way (get_or found.from i 0) ++ (get_or found.by i 0 ∷ [])
     last-is h = way_step q.falls found.by i h v.within
 
+    -- (there is one where the entry is not the first),
     one_left : 0 < i → at ≡ length (way (get_or found.from i 0)) + 1
     one_left h = v.left ∙ rw (last-is h) (simp length-append (omega arith))
 
@@ -80,10 +94,13 @@ module _ {found : Search} {out : List ℕ} {k : ℕ} (q : RulesAsked found out k
         let sum : length (way k) ≡ length (way i) + length v.rest = rw v.way (simp length-append) in
         omega (arith, v.left, c.count found.by)
 
+    pub write-positive : 0 < i → 0 < at
+    write-positive h = omega (arith, one_left h)
+
     module _ (more : 0 < at) where
-      -- (there is one, so that the entry is not the first),
-      pub write-positive : 0 < i
-      write-positive = elim (ℕ_discrete i 0) [
+      -- (where there is one, the entry is not the first),
+      pub write-later : 0 < i
+      write-later = elim (ℕ_discrete i 0) [
         | yes e ↦ let z : length (way i) ≡ 0 = rw (e, way-none k found.from found.by) refl in absurd (omega (arith, v.left))
         | no o ↦ omega arith
       ]
@@ -100,12 +117,12 @@ module _ {found : Search} {out : List ℕ} {k : ℕ} (q : RulesAsked found out k
           let front : 2 + 2 * (at - 1) ≡ 2 * at = omega arith in
           let w = get_or found.by i 0 in
           record {
-            within = omega (arith, q.falls.back i write-positive v.within, v.within);
-            left = omega (arith, one_left write-positive);
+            within = omega (arith, q.falls.back i write-later v.within, v.within);
+            left = omega (arith, one_left write-later);
             long = same ∙ v.long;
             rest = w ∷ v.rest;
             way =
-                v.way ∙ ap (λ l. l ++ v.rest) (last-is write-positive) ∙
+                v.way ∙ ap (λ l. l ++ v.rest) (last-is write-later) ∙
                 append_assoc (way (get_or found.from i 0)) (w ∷ []) v.rest;
             bytes = rw front at put ∙ moved out out₁ n v.rest w at more (omega (arith, at-few, write-few, q.room)) v.bytes;
           }

@@ -13,10 +13,10 @@ returns-then-nodes-i c =
     let places = c.args.places.now in
     elim c.then-nodes-i.branch [
       | then-nodes-i-via-then-nodes-i w ↦
-          laws.loaded-no-node nodes places c.args.facts c.requires.few c.loop-i.i c.loop-i-test.true
+          laws.words-no-node nodes places c.args.facts c.requires.few c.loop-i.i c.loop-i-test.true
           (λ e. w.if-nodes-i.true (e ∙ sym c.pack.ensures))
       | then-nodes-i-via-else-nodes-i+then-from-i w ↦
-          laws.loaded-no-place nodes places c.args.facts c.requires.few c.loop-i.i c.loop-i-test.true
+          laws.words-no-place nodes places c.args.facts c.requires.few c.loop-i.i c.loop-i-test.true
           (λ e. w.if-from-i.true (w.from.ensures ∙ e))
     ]
 
@@ -26,4 +26,4 @@ loop-i-preserved c =
     (sym c.from.ensures ∙ c.if-from-i.false)
 
 pub returns : goal.returns
-returns c = laws.loaded-yes c.args.nodes.now c.args.places.now c.args.facts c.requires.few c.loop-i-test.false c.loop-i.invariant
+returns c = laws.words-yes c.args.nodes.now c.args.places.now c.args.facts c.requires.few c.loop-i-test.false c.loop-i.invariant

@@ -1,19 +1,20 @@
 -- What the functions of src/lib.rt find, as values of the parts of the test: a part that fails answers no, and where all pass it is yes.
-use Rattle.std.specs.Prelude.{◌≡◌, Bool, true, false, not, ◌&&◌, ◌||◌, List, [], ◌∷◌, map, ℕ, ◌+◌, ◌≤◌, ◌<◌, min, T, eqb, get_or}
+use Rattle.std.specs.Prelude.{◌≡◌, Bool, true, false, not, ◌&&◌, ◌||◌, List, [], ◌∷◌, map, ℕ, ◌+◌, ◌-◌, ◌*◌, ◌≤◌, ◌<◌, min, T, eqb, get_or}
 use Rattle.std.specs.Prelude.{take, drop, Ok, Err}
 use Rattle.std.specs.List.{list_any}
 use Rattle.std.specs.Result.{is_err}
 use Rattle.std.proofs.Math.Path.{refl}
-use Rattle.std.proofs.Common.{sym, ap, ◌∙◌, ne_eqb, length-take, length-take-le, take_all}
+use Rattle.std.proofs.Common.{sym, ap, ◌∙◌, eqb→eq, ne_eqb, length-take, length-take-le, take_all}
 use Rattle.std.proofs.Math.Dec.{T_not}
+use Rattle.std.proofs.Math.Logic.{inl, inr}
 use native.Mathlib.Omega.{arith}
 use Rattle.std.proofs.Math.Decide.{dec_lt}
 use Rattle.std.proofs.Math.ListN.{length, get_or-map}
 use borrow.Author.Count.{below_more}
-use borrow.Author.Tests.{le-leb}
+use borrow.Author.Tests.{le-leb, not-true, not-false}
 use Rattle.meaning.specs.Lists.{any, all}
-use Rattle.meaning.specs.Meaning.{Program, atoms}
-use Rattle.meaning.proofs.Laws.Tests.{T_true, T_false, any_is}
+use Rattle.meaning.specs.Meaning.{Program, atoms, layer_of}
+use Rattle.meaning.proofs.Laws.Tests.{T-or-left, T-or-right, T-or-cases, T_true, T_false, eqb_of, any_is}
 use Rattle.format.specs.Counted.{CountsOf}
 use Rattle.format.specs.File.{decode}
 use Rattle.format.specs.Passed.{Passed}
@@ -21,16 +22,29 @@ use Rattle.format.specs.Refusals.{Verdict, verdict, passes}
 use Rattle.format.specs.declared.Accepted.{Accepted}
 use Rattle.format.specs.Laws.Accepted.{passed}
 use Rattle.format.specs.Laws.Passing.{passed-accepted}
-use Rattle.format.specs.Laws.Decoded.{decode-facts, decode-atoms}
+use Rattle.format.specs.Laws.Decoded.{decode-facts, decode-layers, decode-atoms}
 use Rattle.store.specs.Store.{pack, unpack, nodes_in, Sound}
 use Rattle.store.specs.Calls.{Tells}
-use Rattle.store.specs.Laws.Nodes.{pack-unpack, unpack-pack}
+use Rattle.store.specs.Laws.Nodes.{pack-unpack, unpack-pack, nodes_in-at}
 use Rattle.rounds.specs.Layers.{finished_layer, has_atoms}
 use Rattle.rounds.specs.Load.{fact_node}
+use Rattle.rounds.specs.Laws.Layers.{layer-listed}
 use Rattle.state.specs.Hand.{Hand, handing}
 use Rattle.fitting.specs.Fit.{as_loaded, names_in_use, store_fits, fit_together}
 use Rattle.fitting.specs.Inner.{FitAsked}
-use Rattle.fitting.specs.Laws.FitParts.{loaded-all, loaded-each, row, row-all, row-each}
+use Rattle.fitting.specs.Laws.FitParts.{
+  any_at,
+  any_place,
+  zeros-all,
+  zeros-each,
+  used_all,
+  used-each,
+  loaded-all,
+  loaded-each,
+  row,
+  row-all,
+  row-each,
+}
 use Rattle.fitting.specs.Laws.Fit.{Parts, parts_all, parts-each, fits-long}
 
 -- a test that passes, and one that cannot
@@ -40,7 +54,55 @@ yes-is {b} t = sym (T_true b t)
 no-is : {b : Bool} → (T b → ⊥) → false ≡ b
 no-is {b} n = sym (T_false b n)
 
+-- ---- unused entries and places
+
+module _ (l : List ℕ) (from : ℕ) where
+  -- every entry from `from` on is 0,
+  pub unused-yes : ((i : ℕ) → i < length l → from ≤ i → get_or l i 0 ≡ 0) → true ≡ all (eqb 0) (drop from l)
+  unused-yes h = yes-is (zeros-all l from (λ i le lt. h i lt le))
+
+  -- or one is not
+  pub unused-no : (i : ℕ) → from ≤ i → 0 < get_or l i 0 → false ≡ all (eqb 0) (drop from l)
+  unused-no i le pos = no-is (λ t. omega (arith, zeros-each l from t i le))
+
+-- ---- places in use
+
+module _ (count : ℕ) (l : List ℕ) (to : ℕ) where
+  -- every place before `to` names a node in use,
+  pub used-yes : ((i : ℕ) → i < to → get_or l i 0 < count + 2) → true ≡ names_in_use count (take to l)
+  used-yes h = yes-is (used_all count l to h)
+
+  -- or one does not
+  pub used-no : (i : ℕ) → i < to → count + 2 ≤ get_or l i 0 → false ≡ names_in_use count (take to l)
+  used-no i lt le = no-is (λ t. omega (arith, used-each count l to t i lt))
+
 -- ---- facts as loaded
+
+module _ (nodes places : List ℕ) (facts count : ℕ) (le : facts ≤ count) where
+  -- the words and places of the facts are as loaded,
+  pub loaded-yes :
+      ((i : ℕ) → i < facts → get_or nodes i 0 ≡ i * 67108864 + 1) → ((a : ℕ) → a < facts → get_or places a 0 ≡ a + 2) →
+      true ≡ as_loaded facts (nodes_in nodes count) places
+  loaded-yes h k = yes-is (loaded-all facts (nodes_in nodes count) places (record {
+    nodes = λ i lt.
+        let word = h i lt in
+        let e : get_or nodes i 0 ≡ pack (fact_node i) = omega arith in
+        nodes_in-at nodes count i (omega arith) ∙ ap unpack e ∙ unpack-pack (fact_node i) (omega arith) (omega arith);
+    places_are = k;
+  }))
+
+  -- or a word is not,
+  pub loaded-no-node : (i : ℕ) → i < facts → (get_or nodes i 0 ≡ i * 67108864 + 1 → ⊥) →
+      false ≡ as_loaded facts (nodes_in nodes count) places
+  loaded-no-node i lt n = no-is (λ t.
+      let q = (loaded-each facts (nodes_in nodes count) places t).nodes i lt in
+      let e : get_or nodes i 0 ≡ pack (fact_node i) =
+      sym (pack-unpack (get_or nodes i 0)) ∙ ap pack (sym (nodes_in-at nodes count i (omega arith)) ∙ q) in
+      n (omega arith))
+
+  -- or a place is not
+  pub loaded-no-place : (a : ℕ) → a < facts → (get_or places a 0 ≡ a + 2 → ⊥) → false ≡ as_loaded facts (nodes_in nodes count) places
+  loaded-no-place a lt n = no-is (λ t. n ((loaded-each facts (nodes_in nodes count) places t).places_are a lt))
 
 -- the words and the places of the facts below i are as loaded
 pub record LoadedTo (nodes places : List ℕ) (i : ℕ) : Type 0 where
@@ -59,8 +121,8 @@ module _ (nodes places : List ℕ) where
 
   module _ (facts : ℕ) (few : facts ≤ 32) where
     -- and in the end all,
-    pub loaded-yes : {i : ℕ} → facts ≤ i → LoadedTo nodes places i → true ≡ as_loaded facts (map unpack nodes) places
-    loaded-yes le g = yes-is (loaded-all facts (map unpack nodes) places (record {
+    pub words-yes : {i : ℕ} → facts ≤ i → LoadedTo nodes places i → true ≡ as_loaded facts (map unpack nodes) places
+    words-yes le g = yes-is (loaded-all facts (map unpack nodes) places (record {
       nodes = λ k lt.
           get_or-map unpack nodes k 0 ∙ ap unpack (g.words k (omega arith)) ∙
           unpack-pack (fact_node k) (omega arith) (omega arith);
@@ -68,17 +130,52 @@ module _ (nodes places : List ℕ) where
     }))
 
     -- or a word is not,
-    pub loaded-no-node : (i : ℕ) → i < facts → (get_or nodes i 0 ≡ pack (fact_node i) → ⊥) →
+    pub words-no-node : (i : ℕ) → i < facts → (get_or nodes i 0 ≡ pack (fact_node i) → ⊥) →
         false ≡ as_loaded facts (map unpack nodes) places
-    loaded-no-node i lt n = no-is (λ t.
+    words-no-node i lt n = no-is (λ t.
         let node = sym (get_or-map unpack nodes i 0) ∙ (loaded-each facts (map unpack nodes) places t).nodes i lt in
         n (sym (pack-unpack (get_or nodes i 0)) ∙ ap pack node))
 
     -- or a place is not
-    pub loaded-no-place : (i : ℕ) → i < facts → (get_or places i 0 ≡ i + 2 → ⊥) → false ≡ as_loaded facts (map unpack nodes) places
-    loaded-no-place i lt n = no-is (λ t. n ((loaded-each facts (map unpack nodes) places t).places_are i lt))
+    pub words-no-place : (i : ℕ) → i < facts → (get_or places i 0 ≡ i + 2 → ⊥) → false ≡ as_loaded facts (map unpack nodes) places
+    words-no-place i lt n = no-is (λ t. n ((loaded-each facts (map unpack nodes) places t).places_are i lt))
 
 -- ---- the layer in work
+
+module _ {s : List ℕ} {facts derived rules : ℕ} (n : CountsOf s facts derived rules) (layer : ℕ) where
+  abbrev work : Bool
+  work = eqb layer finished_layer || has_atoms (decode s) layer
+
+  -- a derived atom's layer stands at its place in the list
+  listed : (a : ℕ) → facts ≤ a → layer_of (decode s) a ≡ get_or (decode s).layers (a - facts) 0
+  listed a h =
+      let e : length (decode s).facts ≡ facts = decode-facts s ∙ sym n.facts_are in
+      rw e at (layer-listed (decode s) a (omega arith))
+
+  -- the run is finished,
+  pub work-finished : layer ≡ 65535 → true ≡ work
+  work-finished e = yes-is (T-or-left (eqb layer finished_layer) (has_atoms (decode s) layer) (eqb_of e))
+
+  -- or an atom is of the layer,
+  pub work-found : (a : ℕ) {l : ℕ} → facts ≤ a → a < facts + derived → l ≡ layer_of (decode s) a → l ≡ layer → true ≡ work
+  unfolding has_atoms
+  work-found a le lt e q =
+      let inside : a - facts < length (decode s).layers = omega (arith, decode-layers s, n.derived_are) in
+      yes-is (T-or-right (eqb layer finished_layer) (has_atoms (decode s) layer)
+      (any_at (eqb layer) 0 (decode s).layers (a - facts) inside (eqb_of (sym q ∙ e ∙ listed a le))))
+
+  -- or none is
+  pub work_none :
+      (layer ≡ 65535 → ⊥) → ((a : ℕ) → a < facts + derived → facts ≤ a → layer_of (decode s) a ≡ layer → ⊥) → false ≡ work
+  unfolding has_atoms
+  work_none m h = no-is (λ t. elim (T-or-cases (eqb layer finished_layer) (has_atoms (decode s) layer) t) [
+    | inl q ↦ m (eqb→eq _ _ q)
+    | inr q ↦
+        let (i, lt, e) = any_place (eqb layer) 0 (decode s).layers q in
+        let back : facts + i - facts ≡ i = omega arith in
+        h (facts + i) (omega (arith, decode-layers s, n.derived_are)) (omega arith)
+        (listed (facts + i) (omega arith) ∙ rw back (sym (eqb→eq layer _ e)))
+  ])
 
 -- the layer is one of the layers, where the run is not finished
 pub work-is : (P : Program) (layer : ℕ) {ls : List ℕ} {r : Bool} → ls ≡ P.layers → (layer ≡ 65535 → ⊥) →
@@ -116,6 +213,57 @@ module _ {s nodes places : List ℕ} {facts derived rules : ℕ} (q : FitAsked s
   -- and so do too many;
   pub no_room : length nodes < count → false ≡ fit
   no_room h = refuted (λ p. omega (arith, p.used))
+
+  module _ {r : Bool} (fails : not r ≡ true) where
+    failed : {b : Bool} → r ≡ b → T b → ⊥
+    failed {b} e t = let f : b ≡ false = sym e ∙ not-true r fails in rw f at t
+
+    -- facts that are not as loaded,
+    pub no-loaded : r ≡ as_loaded facts (nodes_in nodes count) places → false ≡ fit
+    no-loaded e = refuted (λ p. failed e (rw facts-of at p.loaded))
+
+    -- entries that should be 0,
+    pub no-zeros : r ≡ all (eqb 0) (drop count nodes) → false ≡ fit
+    no-zeros e = refuted (λ p. failed e p.unused_nodes)
+
+    -- places that should be 0,
+    pub no-places : r ≡ all (eqb 0) (drop (facts + derived) places) → false ≡ fit
+    no-places e = refuted (λ p. failed e (rw atoms-of at p.unused_places))
+
+    -- places that name no node in use,
+    pub no-used : r ≡ names_in_use count (take (facts + derived) places) → false ≡ fit
+    no-used e = refuted (λ p. failed e (rw atoms-of at p.used_places))
+
+    -- or a layer without atoms;
+    pub no-work : r ≡ (eqb layer finished_layer || has_atoms (decode s) layer) → false ≡ fit
+    no-work e = refuted (λ p. failed e p.at_work)
+
+  passed_is : {r b : Bool} → not r ≡ false → r ≡ b → T b
+  passed_is {r} {b} n e = let f : b ≡ true = sym e ∙ not-false r n in rw f tt
+
+  -- and where all others pass, the test is as the rules for nodes say
+  pub by-rules :
+      {a b c d e : Bool} → facts ≤ count → count ≤ length nodes →
+      not a ≡ false → a ≡ as_loaded facts (nodes_in nodes count) places →
+      not b ≡ false → b ≡ all (eqb 0) (drop count nodes) →
+      not c ≡ false → c ≡ all (eqb 0) (drop (facts + derived) places) →
+      not d ≡ false → d ≡ names_in_use count (take (facts + derived) places) →
+      not e ≡ false → e ≡ (eqb layer finished_layer || has_atoms (decode s) layer) →
+      (r : Bool) → Tells r (Sound facts (nodes_in nodes count)) → r ≡ fit
+  by-rules h k a₀ a₁ b₀ b₁ c₀ c₁ d₀ d₁ e₀ e₁ = go
+    where
+      go : (r : Bool) → Tells r (Sound facts (nodes_in nodes count)) → r ≡ fit
+      go true g = yes-is (parts_all (decode s) nodes places layer count (record {
+        from = omega (arith, facts-of);
+        used = k;
+        loaded = rw facts-of (passed_is a₀ a₁);
+        sound = rw facts-of g;
+        unused_nodes = passed_is b₀ b₁;
+        unused_places = rw atoms-of (passed_is c₀ c₁);
+        used_places = rw atoms-of (passed_is d₀ d₁);
+        at_work = passed_is e₀ e₁;
+      }))
+      go false g = refuted (λ p. g (rw facts-of at p.sound))
 
   -- these are the tests before the rules for nodes:
   abbrev loaded : Bool
@@ -156,9 +304,9 @@ module _ {s nodes places : List ℕ} {facts derived rules : ℕ} (q : FitAsked s
       )))
 
   -- and where all pass, the test is as the rules for nodes say
-  pub by-rules : {r : Bool} → r ≡ row loaded others → r ≡ true → facts ≤ count → count ≤ length nodes →
+  pub by-row : {r : Bool} → r ≡ row loaded others → r ≡ true → facts ≤ count → count ≤ length nodes →
       (sound : Bool) → Tells sound (Sound facts (nodes_in nodes count)) → sound ≡ fit
-  by-rules {r} e f h k = go
+  by-row {r} e f h k = go
     where
       go : (sound : Bool) → Tells sound (Sound facts (nodes_in nodes count)) → sound ≡ fit
       go true g =

@@ -35,7 +35,7 @@ use Rattle.format.specs.Passed.{RightContents, PassedRule, PassedBy, Passed, For
 use Rattle.format.specs.Legal.{Legal}
 use Rattle.format.specs.Laws.Decoded.{decode-facts, decode-layers, decode-rules}
 use Rattle.format.specs.Laws.FactsRead.{some-weight}
-use Rattle.format.specs.Laws.Compared.{same}
+use Rattle.format.specs.Laws.Compared.{equal}
 use Rattle.format.specs.Laws.First.{Clear, accepted, head-passes, append-passes, each-passes}
 
 clear : (ts : List Test) → Answers ts (Ok tt) → Clear ts
@@ -106,7 +106,7 @@ parts layered s a =
 
 contents-right : (layered : Bool) (s : List ℕ) → Parts layered s → RightContents s
 unfolding file_tests
-contents-right layered s p = omega (arith, same)
+contents-right layered s p = omega (arith, equal)
 
 -- the rules start within the file
 starts : (s : List ℕ) (n : ℕ) → rules_at s ≤ length s → ((j : ℕ) → j < n → PassedRule s j) → (j : ℕ) → j ≤ n → start_of s j ≤ length s

@@ -23,7 +23,7 @@ use Rattle.format.specs.Refusals.{
 }
 use Rattle.format.specs.Checked.{Answers}
 use Rattle.format.specs.Legal.{Legal}
-use Rattle.format.specs.Laws.Compared.{alike, at_most, below, positive}
+use Rattle.format.specs.Laws.Compared.{alike, at_most, less, positive}
 use Rattle.format.specs.Laws.First.{none, pass, go_on, each_none}
 use Rattle.format.specs.Passed.{RightContents, PassedRule, PassedBy, Passed, Formed}
 use Rattle.format.specs.Laws.Decoded.{decode-facts, decode-layers, decode-rules}
@@ -43,8 +43,8 @@ unfolding rule_tests start_of
 rule-passes layered s j p keeps =
     go_on
     (pass (at_most p.header) (pass (at_most p.body) (pass (at_most p.inside)
-    (pass (at_most p.derived) (pass (below p.below) none)))))
-    (each_none (u16 s (start_of s j + 2)) _ (λ i q. pass (below (known i q)) (pass (keeps i q) none)))
+    (pass (at_most p.derived) (pass (less p.below) none)))))
+    (each_none (u16 s (start_of s j + 2)) _ (λ i q. pass (less (known i q)) (pass (keeps i q) none)))
   where
     known : (i : ℕ) → i < u16 s (start_of s j + 2) → (literal_at s (start_of s j) i).atom < atoms (decode s)
     known i q = rw (decode-facts, decode-layers) (p.known i q)
@@ -108,7 +108,7 @@ unfolding breaks
 literal-keeps P h l f g = go l.negated refl
   where
     go : (b : Bool) → l.negated ≡ b → breaks P h l ≡ false
-    go true e = rw (breaks, e) (below (g e))
+    go true e = rw (breaks, e) (less (g e))
     go false e = rw (breaks, e) (at_most (f e))
 
 rule-member : (s : List ℕ) (j : ℕ) → j < R s → Memᴰ (rule_at s (start_of s j)) (decode s).rules

@@ -39,10 +39,11 @@ use Rattle.meaning.specs.Meaning.{layer_of, atoms}
 use Rattle.format.specs.Bytes.{byte, u16}
 use Rattle.format.specs.File.{F, D, R, layers_at, rules_at, after, start_of, literal, literal_at, decode}
 use Rattle.format.specs.Refusals.{layer_test, breaks, literal_tests, head_tests, rule_tests, rules_tests, each}
-use Rattle.format.specs.Checked.{Answers, LiteralRead}
+use Rattle.format.specs.Checked.{Answers, HeaderRead, LiteralRead}
 use Rattle.format.specs.Laws.Decoded.{decode-atoms}
 use Rattle.format.specs.Laws.First.{none, pass, fail, stop, go_on, each_none, each-fault}
 use Rattle.format.specs.declared.Refusal.{Refusal}
+use Rattle.format.specs.declared.rules.Head.{Head}
 use Rattle.format.specs.declared.Refusal.TheVariants.{Layerless, Broken, Unknown, Layers}
 
 -- ---- 7
@@ -187,7 +188,12 @@ module _ (s : List ℕ) (at : ℕ) {end : ℕ} (ends : end ≡ after s at) (pres
       part-byte : (k : ℕ) → k < end - (at + 4) → byte body_bytes k ≡ byte s (at + 4 + k)
       part-byte k q = get_or-take (end - (at + 4)) (drop (at + 4) s) k 0 q ∙ get_or-drop (at + 4) s k 0
 
--- ---- what a call of `literal` has answered
+-- ---- what the calls of `header` and `literal` have answered
+
+-- of the rule at `at`, by the case that was met
+module _ (s : List ℕ) (j at : ℕ) where
+  pub header_is : {r q : Result Head Refusal} → HeaderRead s j at r → r ≡ q → HeaderRead s j at q
+  header_is h e = subst (HeaderRead s j at) e h
 
 -- of literal i of the rule at `at`
 pub literal_is :

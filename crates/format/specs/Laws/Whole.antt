@@ -1,7 +1,7 @@
 -- The whole check: at each point of the code, the tests that are left answer what all the tests answer.
-use Rattle.std.specs.Prelude.{Ok, Err, Option, Some, None, ok_or, ◌≡◌, Bool, List, ◌++◌, ℕ, ◌≤◌, length}
-use Rattle.std.proofs.Math.Path.{refl}
-use Rattle.std.proofs.Common.{sym, ◌∙◌, arith, ltb-false}
+use Rattle.std.specs.Prelude.{Ok, Err, Result, ⊤, Option, Some, None, ok_or, ◌≡◌, Bool, List, ◌++◌, ℕ, ◌≤◌, ◌<◌, length}
+use Rattle.std.proofs.Math.Path.{refl, subst}
+use Rattle.std.proofs.Common.{sym, ◌∙◌, arith, ltb-false, lt-ltb, le-ltb}
 use Rattle.meaning.specs.Meaning.{total}
 use Rattle.format.specs.File.{F, D, R, rules_at, decode}
 use Rattle.format.specs.Refusals.{
@@ -23,7 +23,7 @@ use Rattle.format.specs.Refusals.{
 }
 use Rattle.format.specs.Counted.{Framed}
 use Rattle.format.specs.Checked.{Answers, Totalled}
-use Rattle.format.specs.Laws.Compared.{at_most, over}
+use Rattle.format.specs.Laws.Compared.{at_most, more}
 use Rattle.format.specs.Laws.First.{none, pass, fail, first-append, head-passes, alike-fails}
 use Rattle.format.specs.declared.Refusal.{Refusal}
 use Rattle.format.specs.declared.Refusal.TheVariants.{Length, Total}
@@ -57,6 +57,10 @@ after1 layered s = contents_tests s ++ after2 layered s
 pub record Left (v : Verdict) (s : List ℕ) (ts : List Test) : Type 0 where
   pub left : v ≡ first ts (Ok (accepted_of s))
 
+-- the answer of the tests, known by an equation
+pub answers-is : {ts : List Test} {r q : Result ⊤ Refusal} → Answers ts r → r ≡ q → Answers ts q
+answers-is {ts} a e = subst (Answers ts) e a
+
 -- a part of the tests has no fault, or the first
 module _ {v : Verdict} {s : List ℕ} (k l : List Test) (before : Left v s (k ++ l)) where
   pub passes : Answers k (Ok tt) → Left v s l
@@ -72,7 +76,17 @@ module _ (layered : Bool) (s : List ℕ) where
   unfolding verdict_by file_tests
   whole = record { left = refl }
 
-  -- too short or too long,
+  -- too short,
+  pub too_short : length s < 28 → Err Length ≡ verdict_by layered s
+  unfolding length_tests
+  too_short h = refuses (length_tests s) (after1 layered s) whole (fail (lt-ltb (length s) 28 h))
+
+  -- too long,
+  pub too_long : 28 ≤ length s → 65536 < length s → Err Length ≡ verdict_by layered s
+  unfolding length_tests
+  too_long h k = refuses (length_tests s) (after1 layered s) whole (pass (le-ltb (length s) 28 h) (fail (lt-ltb 65536 (length s) k)))
+
+  -- either of the two,
   pub unfit : (28 ≤ length s → length s ≤ 65536 → ⊥) → Err Length ≡ verdict_by layered s
   unfolding length_tests
   unfit h =
@@ -102,10 +116,13 @@ module _ (s : List ℕ) where
   unfolding total_tests
   total-passes h = pass (at_most (omega (arith, h.0, h.1))) none
 
+  pub total-is : {n : ℕ} → Totalled s (Some n) → n ≡ total (decode s).facts
+  total-is t = t.0
+
   pub total-fails : (r : Option ℕ) → Totalled s r → {w : Refusal} → Err w ≡ ok_or r Total → Answers (total_tests s) (Err w)
   unfolding total_tests
   total-fails (Some t) h e = cc
-  total-fails None h {w} e = let d : Total ≡ w = cc in rw (← d) (fail (over h))
+  total-fails None h {w} e = let d : Total ≡ w = cc in rw (← d) (fail (more h))
 
 -- ---- what the parts after 4 may take for granted
 

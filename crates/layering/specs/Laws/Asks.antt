@@ -24,7 +24,7 @@ use Rattle.std.specs.Prelude.{
 }
 use Rattle.std.proofs.Math.Path.{sym}
 use Rattle.std.proofs.Common.{ap, ◌∙◌, arith, add-one, eqb-true}
-use Rattle.std.proofs.Math.Nat.{max_comm}
+use Rattle.std.proofs.Math.Nat.{max_comm, max-eq_left, max-eq_right}
 use Rattle.std.proofs.lemmas.Bool.{eqb-false}
 use Rattle.meaning.specs.Lists.{upto}
 use Rattle.meaning.specs.Meaning.{Literal}
@@ -84,7 +84,7 @@ pub asking-start : (s ls : List ℕ) (F at : ℕ) → Asking s ls F at 0 0
 unfolding asks upto
 asking-start s ls F at = record { is = refl }
 
--- and one literal more asks for its own layer too
+-- and one literal more asks for its own layer too:
 pub asking-next : {s ls : List ℕ} {F at most i n v : ℕ} → Asking s ls F at most i →
     n ≡ u16 s (at + 2 * i) → v ≡ one F ls (literal n) → Asking s ls F at (max v most) (i + 1)
 asking-next {s} {ls} {F} {at} {most = most} {i = i} {v = v} g d e = record {
@@ -92,3 +92,20 @@ asking-next {s} {ls} {F} {at} {most = most} {i = i} {v = v} g d e = record {
       max_comm v most ∙
       rw (add-one i, g.is, e, d) (sym (asks-last F ls i (λ k. literal (u16 s (at + 2 * k)))));
 }
+
+module _ {s ls : List ℕ} {F at most i : ℕ} (g : Asking s ls F at most i) where
+  -- it asks for more,
+  pub asking-more : {n v : ℕ} → n ≡ u16 s (at + 2 * i) → v ≡ one F ls (literal n) → most < v → Asking s ls F at v (i + 1)
+  asking-more {n} {v} d e lt =
+      let next = asking-next g d e in
+      record { is = sym (max-eq_left {n = v} {m = most} (omega arith)) ∙ next.is }
+
+  -- or does not
+  pub asking-same : {n v : ℕ} → n ≡ u16 s (at + 2 * i) → v ≡ one F ls (literal n) → v ≤ most → Asking s ls F at most (i + 1)
+  asking-same {n} {v} d e le =
+      let next = asking-next g d e in
+      record { is = sym (max-eq_right {n = v} {m = most} le) ∙ next.is }
+
+-- in the end all have asked
+pub asking-end : {s ls : List ℕ} {F at len most i : ℕ} → Asking s ls F at most i → i ≤ len → len ≤ i → most ≡ asks F ls (body_at s at len)
+asking-end {len = len} {i = i} g l h = let e : i ≡ len = omega arith in (rw e at g).is

@@ -39,6 +39,7 @@ use Rattle.layering.specs.Laws.Pass.{in-derived, in_place}
 
 -- the first k layers stand in the output, and behind them what stood there before
 pub record Copied (layers before out : List ℕ) (k : ℕ) : Type 0 where
+  pub within : k ≤ length layers
   pub is : out ≡ paste before 0 layers k
 
 -- none is over 255
@@ -84,12 +85,12 @@ module _ {s layers before : List ℕ} (q : WriteAsked s layers before) where
 
   -- nothing was copied,
   pub copied-start : Copied layers before before 0
-  copied-start = record { is = paste-zero before 0 layers }
+  copied-start = record { is = paste-zero before 0 layers; within = omega arith }
 
   module _ {out : List ℕ} {k : ℕ} (g : Copied layers before out k) where
     -- the output keeps its length,
-    pub copied-length : k ≤ length layers → length out ≡ length before
-    copied-length h = ap length g.is ∙ length-paste before 0 layers k (omega (arith, q.size, few)) h
+    pub copied-length : length out ≡ length before
+    copied-length = ap length g.is ∙ length-paste before 0 layers k (omega (arith, q.size, few, g.within)) g.within
 
     -- then one layer more was,
     pub copied_next : k < length layers → Copied layers before (set out k (get_or layers k 0)) (k + 1)
@@ -98,6 +99,7 @@ module _ {s layers before : List ℕ} (q : WriteAsked s layers before) where
           rw (add-one k, g.is)
           (ap (λ i. set (paste before 0 layers k) i (get_or layers k 0)) (sym (zero-add k)) ∙
           paste-suc before 0 layers k 0 (omega (arith, few, q.size)) h);
+      within = omega arith;
     }
 
     -- and in the end all were

@@ -2,14 +2,21 @@
 use Rattle.std.specs.Prelude.{◌≡◌, List, ◌++◌, ℕ, ◌+◌, ◌≤◌, ◌<◌, length}
 use Rattle.std.proofs.Common.{append_assoc, arith, length-append}
 use Rattle.text.specs.Text.{ascii, decimal}
+use Rattle.text.specs.Wrote.{Wrote}
 use Rattle.text.specs.Writes.{Writes, WritesNamed}
 use Rattle.text.specs.declared.Writer.{Writer}
 use Rattle.text.specs.Laws.Decimal.{decimal-most, decimal-short}
 use Rattle.text.specs.Laws.Parts.{pair-most}
+use Rattle.text.specs.Laws.Wrote.{Named, wrote_then, wrote-is}
 use Rattle.text.specs.Laws.Writes.{writes_then, writes-is}
 use Rattle.report.specs.Report.{full_text, header, weight_line}
 
--- ---- parts that make a text
+-- ---- parts that make a text, in the output and of a writer
+
+pub full-wrote : {out out₁ out₂ : List ℕ} {a r u : ℕ} → Named out out₁ 0 a (ascii "full ") u → Wrote out₁ out₂ a r (ascii "\n") →
+    Wrote out out₂ 0 r (full_text u)
+unfolding full_text
+full-wrote v w = wrote_then v.wrote w
 
 pub full-writes : {w w₁ w₂ : Writer} {u : ℕ} → WritesNamed w w₁ (ascii "full ") u → Writes w₁ w₂ (ascii "\n") → Writes w w₂ (full_text u)
 unfolding full_text
@@ -19,6 +26,15 @@ full-writes v t = writes_then v.writes t
 regroup : (a b c d e f g h i : List ℕ) →
     (((a ++ b) ++ (c ++ d)) ++ (e ++ f)) ++ (g ++ h) ++ i ≡ a ++ b ++ c ++ d ++ e ++ f ++ g ++ h ++ i
 regroup a b c d e f g h i = simp append_assoc
+
+pub header-wrote : {out out₁ out₂ out₃ out₄ out₅ : List ℕ} {a b c e r f : ℕ} (d : ℕ) {t u : ℕ} →
+    Named out out₁ 0 a (ascii "atoms ") (f + d) → Named out₁ out₂ a b (ascii " facts ") f → Named out₂ out₃ b c (ascii " total ") t →
+    Named out₃ out₄ c e (ascii " updates ") u → Wrote out₄ out₅ e r (ascii "\n") → Wrote out out₅ 0 r (header f d t u)
+unfolding header
+header-wrote {f = f} d {t} {u} p q v w x =
+    wrote-is (wrote_then (wrote_then (wrote_then (wrote_then p.wrote q.wrote) v.wrote) w.wrote) x)
+    (regroup (ascii "atoms ") (decimal (f + d)) (ascii " facts ") (decimal f) (ascii " total ") (decimal t) (ascii " updates ") (decimal u)
+    (ascii "\n"))
 
 pub header-writes : {w w₁ w₂ w₃ w₄ w₅ : Writer} {f : ℕ} (d : ℕ) {t u : ℕ} →
     WritesNamed w w₁ (ascii "atoms ") (f + d) → WritesNamed w₁ w₂ (ascii " facts ") f → WritesNamed w₂ w₃ (ascii " total ") t →

@@ -3,9 +3,11 @@ use Rattle.std.specs.Prelude.{◌≡◌, List, [], ℕ, ◌+◌, ◌^◌, ◌≤
 use Rattle.std.proofs.Common.{ap, ◌∙◌, append_assoc, arith, length-append}
 use Rattle.io.specs.Digits.{last_digits, IsDigitCount}
 use Rattle.text.specs.Text.{ascii, decimal, pair_line, refused_text}
+use Rattle.text.specs.Wrote.{Wrote}
 use Rattle.text.specs.Writes.{Writes, WritesNamed}
 use Rattle.text.specs.declared.Writer.{Writer}
 use Rattle.text.specs.Laws.Decimal.{decimal-digits, decimal-most}
+use Rattle.text.specs.Laws.Wrote.{Named, wrote_then, wrote-is}
 use Rattle.text.specs.Laws.Writes.{writes_then, writes-is}
 
 -- ---- numbers
@@ -29,6 +31,18 @@ word-named u v = record { writes = writes_then u v.writes; near = omega (arith, 
 
 -- ---- parts that make a text
 
+-- in the output,
+pub refused-wrote : {out out₁ out₂ out₃ : List ℕ} {a b r n d : ℕ} → Named out out₁ 0 a (ascii "refused ") n →
+    Named out₁ out₂ a b (ascii " ") d → Wrote out₂ out₃ b r (ascii "\n") → Wrote out out₃ 0 r (refused_text n d)
+unfolding refused_text
+refused-wrote u v w = wrote-is (wrote_then (wrote_then u.wrote v.wrote) w) (simp append_assoc)
+
+pub pair-wrote : {out out₁ out₂ out₃ : List ℕ} {at a b r m n : ℕ} → Named out out₁ at a [] m →
+    Named out₁ out₂ a b (ascii " ") n → Wrote out₂ out₃ b r (ascii "\n") → Wrote out out₃ at r (pair_line m n)
+unfolding pair_line
+pair-wrote u v w = wrote-is (wrote_then (wrote_then u.wrote v.wrote) w) (simp append_assoc)
+
+-- and of a writer
 pub refused-writes : {w w₁ w₂ w₃ : Writer} {n d : ℕ} → WritesNamed w w₁ (ascii "refused ") n →
     WritesNamed w₁ w₂ (ascii " ") d → Writes w₂ w₃ (ascii "\n") → Writes w w₃ (refused_text n d)
 unfolding refused_text

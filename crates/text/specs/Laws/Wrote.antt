@@ -1,5 +1,5 @@
 -- Text written in parts: what is written behind a text continues it, and the output's length stays.
-use Rattle.std.specs.Prelude.{◌≡◌, List, [], ◌++◌, ℕ, ◌+◌, ◌≤◌, length, take, drop}
+use Rattle.std.specs.Prelude.{◌≡◌, refl, List, [], ◌++◌, ℕ, ◌+◌, ◌≤◌, ◌<◌, length, get_or, set, take, drop}
 use Rattle.std.proofs.Common.{
   sym,
   ap,
@@ -8,6 +8,7 @@ use Rattle.std.proofs.Common.{
   append-nil,
   arith,
   zero-add,
+  add-one,
   length-append,
   length-drop,
   take-append-drop,
@@ -15,9 +16,9 @@ use Rattle.std.proofs.Common.{
   take_at,
   drop-drop,
 }
-use Rattle.std.proofs.Math.Seq.{drop-append-add}
+use Rattle.std.proofs.Math.Seq.{drop-append-add, paste, paste-zero, paste-suc, take-length}
 use Rattle.text.specs.Wrote.{Wrote}
-use Rattle.text.specs.Text.{Printed}
+use Rattle.text.specs.Text.{decimal, Printed}
 
 module _ {out out₁ : List ℕ} {at r : ℕ} {text : List ℕ} (w : Wrote out out₁ at r text) where
   -- what stands before the text, with it, ends at r
@@ -58,6 +59,30 @@ wrote_nothing out at h = record {
   end = omega arith;
   inside = h;
 }
+
+-- a word and a number behind it, which ends at most 20 digits behind the word
+pub record Named (out out₁ : List ℕ) (at r : ℕ) (word : List ℕ) (n : ℕ) : Type 0 where
+  pub wrote : Wrote out out₁ at r (word ++ decimal n)
+  pub near : r ≤ at + length word + 20
+
+-- ---- a copy, byte by byte
+
+module _ (out : List ℕ) (at : ℕ) (text : List ℕ) where
+  -- no byte has been copied yet,
+  pub copy-none : out ≡ paste out at text 0
+  copy-none = paste-zero out at text
+
+  -- one more
+  pub copy_more : (i : ℕ) {b : List ℕ} → at + length text ≤ length out → i < length text → b ≡ paste out at text i →
+      set b (at + i) (get_or text i 0) ≡ paste out at text (i + 1)
+  copy_more i room lt e = rw (e, add-one i) (paste-suc out at text i 0 (omega arith) lt)
+
+  -- all of them
+  pub copy-all : (i : ℕ) {b : List ℕ} → at + length text ≤ length out → i ≤ length text → length text ≤ i → b ≡ paste out at text i →
+      Wrote out b at (at + length text) text
+  copy-all i room le ge e =
+      let same : i ≡ length text = omega arith in
+      record { bytes = e ∙ rw (same, take-length) refl; end = refl; inside = room }
 
 -- a text written from the output's start
 pub wrote-printed : {text out out₁ : List ℕ} {r : ℕ} → Wrote out out₁ 0 r text → Printed text out out₁ r

@@ -2,12 +2,12 @@
 use Rattle.std.proofs.Common.{rules, arith}
 use Rattle.format.specs.Refusals.{contents_tests}
 use Rattle.format.specs.Laws.First.{none, pass, alike-fails}
-use Rattle.format.specs.Laws.Compared.{alike, same}
+use Rattle.format.specs.Laws.Compared.{alike, equal}
 use Rattle.format.proofs.contents.contents.Goals as goal
 
 pub returns-then-layout-ne1 : goal.returns-then-layout-ne1
 unfolding contents_tests
-returns-then-layout-ne1 c = alike-fails _ (search rules) (λ clear. omega (arith, same))
+returns-then-layout-ne1 c = alike-fails _ (search rules) (λ clear. omega (arith, equal))
 
 pub returns : goal.returns
 unfolding contents_tests

@@ -2,9 +2,9 @@
 use native.Mathlib.Omega.{arith}
 use mathlib.Core.Path.{◌≡◌, ◌∙◌}
 use Rattle.format.specs.File.{literal}
-use Rattle.layering.specs.Laws.Asks.{one, one-fact, one-derived, asking-start, asking-next}
+use Rattle.layering.specs.Laws.Asks.{one, one-fact, one-derived, asking-start, asking-more, asking-same}
 use Rattle.layering.proofs.rising.asked.Goals as goal
-use Rattle.layering.proofs.rising.asked.Goals.{Joined-program-lit, then-program-lit, else-program-lit}
+use Rattle.layering.proofs.rising.asked.Goals.{Joined-program-lit, then-program-lit, else-program-lit, then-most-layer, else-most-layer}
 
 pub loop-i-init : goal.loop-i-init
 loop-i-init c = asking-start _ _ _ _
@@ -23,8 +23,12 @@ layer_is c =
 
 pub loop-i-preserved : goal.loop-i-preserved
 loop-i-preserved c =
-    rw c.max-most.ensures (asking-next c.loop-i.invariant c.u16_at-lit.ensures.value (layer_is
-    (goal.at.loop-i-preserved c).Joined-program-lit))
+    let read = c.u16_at-lit.ensures.value in
+    let layer = layer_is (goal.at.loop-i-preserved c).Joined-program-lit in
+    elim c.if-most-layer.branch [
+      | then-most-layer w ↦ rw w.most-is (asking-more c.loop-i.invariant read layer w.if-most-layer.true)
+      | else-most-layer w ↦ rw w.most-is (asking-same c.loop-i.invariant read layer w.if-most-layer.false)
+    ]
 
 pub returns : goal.returns
 returns c = let e : c.loop-i.i ≡ c.args.len = omega arith in rw e at c.loop-i.invariant.is

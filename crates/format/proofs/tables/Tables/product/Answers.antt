@@ -1,6 +1,6 @@
 -- `format::tables::Tables::product` meets its contract: the product so far times the total of the facts to come is the total.
 use Rattle.std.proofs.Common.{arith}
-use Rattle.format.specs.Laws.FactsRead.{product-start, product-step, product-over, product-end}
+use Rattle.format.specs.Laws.FactsRead.{product-start, product-step, both_positive, product-over, product-fails, product-end}
 use Rattle.format.proofs.tables.Tables.product.Goals as goal
 
 pub loop-i-init : goal.loop-i-init
@@ -12,7 +12,10 @@ returns-in_err-total c =
     let over = c.in_err-total.ensures in
     rw c.from_residual.ensures
     (product-over c.args.self.program.file.now loop.i (omega arith) c.u16_at.ensures.value c.u16_at-in-loop-i.ensures.value c.requires
-    loop.total loop.invariant.1 (omega arith))
+    loop.total loop.invariant.1
+    (product-fails loop.total _
+    (both_positive c.args.self.program.file.now loop.i (omega arith) c.u16_at.ensures.value c.u16_at-in-loop-i.ensures.value c.requires)
+    (omega arith)))
 
 pub loop-i-preserved : goal.loop-i-preserved
 loop-i-preserved c =
